@@ -1,0 +1,4 @@
+pub mod Demand
+pub mod Bounds
+pub mod Accepted
+pub mod Judged
