@@ -1,0 +1,12 @@
+// Line-ups as bytes: bit fields, records, the reader.
+mod faults;
+mod fields;
+mod parts;
+mod reader;
+mod reading;
+mod records;
+
+pub use records::ReadFault;
+pub use faults::ReadFaultToFault;
+pub use reader::Reader;
+pub use records::Record;
