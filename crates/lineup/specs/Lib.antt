@@ -2,3 +2,5 @@ pub mod Fields
 pub mod Records
 pub mod Reading
 pub mod Readers
+pub mod Decoding
+pub mod RowLists
