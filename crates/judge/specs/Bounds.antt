@@ -4,17 +4,25 @@ use Prim.Native.Nat.{ℕ, _-_, _≤_, _<_, max}
 use mathlib.Core.Path.{_≡_}
 use mathlib.Core.List.{List}
 use Rattle.row.specs.declared.rows.Row.{Row}
-use Rattle.judge.specs.Demand.{normalDemand, lateDemand, startDemand}
+use Rattle.judge.specs.Demand.{demandBy, normalDemand, lateDemand, startDemand}
 
 -- t is the least number with P
 pub record Least (P : ℕ → Type 0) (t : ℕ) : Type 0 where
   pub holds : P t
   pub first : (u : ℕ) → u < t → P u → ⊥
 
+-- no number up to n has P
+abbrev pub NoneUpTo : ℕ → (ℕ → Type 0) → Type 0
+NoneUpTo n P = (t : ℕ) → t ≤ n → P t → ⊥
+
 -- each s below n has a value, and m is the greatest of them
 pub record Greatest (n : ℕ) (Value : ℕ → ℕ → Type 0) (m : ℕ) : Type 0 where
   pub each : (s : ℕ) → s < n → (v : ℕ) × Value s v × (v ≤ m)
   pub some : (s : ℕ) × (s < n) × Value s m
+
+-- a window of length t has room for its own demand
+abbrev pub HasRoom : (ℕ → Row → ℕ) → List Row → ℕ → ℕ → Type 0
+HasRoom share above own t = demandBy share above own t ≤ t
 
 -- R is the normal bound of a row with short budget C: the least t ≥ 1 whose normal demand is at most t
 abbrev pub NormalBound : List Row → ℕ → ℕ → Type 0

@@ -27,11 +27,15 @@ lateShare s t (Helper r) = (down s (r .period) + 1) * r .short
 abbrev pub startShare : ℕ → Row → ℕ
 startShare t r = (down t (periodOf r) + 1) * shortOf r
 
+-- the demand of a window of length t: a first budget of its own, and what each row above takes
+abbrev pub demandBy : (ℕ → Row → ℕ) → List Row → ℕ → ℕ → ℕ
+demandBy share above own t = own + sumBy (share t) above
+
 abbrev pub normalDemand : List Row → ℕ → ℕ → ℕ
-normalDemand above own t = own + sumBy (normalShare t) above
+normalDemand above own t = demandBy normalShare above own t
 
 abbrev pub lateDemand : List Row → ℕ → ℕ → ℕ → ℕ
-lateDemand above budget s t = budget + sumBy (lateShare s t) above
+lateDemand above budget s t = demandBy (lateShare s) above budget t
 
 abbrev pub startDemand : List Row → ℕ → ℕ
 startDemand above t = sumBy (startShare t) above

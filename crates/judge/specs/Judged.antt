@@ -29,6 +29,22 @@ abbrev pub allKeep : List RowNumbers → Bool
 allKeep [] = true
 allKeep (n ∷ given) = keeps n && allKeep given
 
+-- row r, at place i below the rows `above`, fails first by the check that the fault names
+abbrev pub FailsBy : List Row → Row → ℕ → JudgeFault → Type 0
+FailsBy above r i (TooManyRows n) = ⊥
+FailsBy above r i NoRows = ⊥
+FailsBy above r i OutsideLimits = ⊥
+FailsBy above r i (NormalBound j) = (j ≡ i) × FailsNormal above r
+FailsBy above r i (MixedBound j) = (j ≡ i) × FailsMixed above r
+FailsBy above r i (LongBound j) = (j ≡ i) × FailsLong above r
+
+-- the first row that does not pass fails by the check that the fault names
+pub record FailsFirst (rows : List Row) (f : JudgeFault) : Type 0 where
+  pub place : ℕ
+  pub within : place < length rows
+  pub before : (j : ℕ) → j < place → (r : Row) → (b : Bounds) × Passes (take j rows) (getD rows j r) b
+  pub fails : (r : Row) → FailsBy (take place rows) (getD rows place r) place f
+
 -- the numbers make 1 to 32 rows; row i is the first that does not pass, and it fails by Fails
 pub record FirstFailure (given : List RowNumbers) (i : ℕ) (Fails : List Row → Row → Type 0) : Type 0 where
   pub rows : List Row

@@ -27,13 +27,17 @@ rowIn rest size filling numbers rows =
     cond (ltb (length rest) size) (Err InputEnds)
     (cond (eqb filling 0) (rowOf numbers rows) (Err FillingNotZero))
 
--- kind 0: T, D, C of 18 bits each, 7 zero bits
-abbrev pub helperIn : List ℕ → ℕ → Result RowNumbers Refusal
-helperIn rest rows = rowIn rest 8 (field rest 57 7) (Helper (field rest 3 18) (field rest 21 18) (field rest 39 18)) rows
+-- T, D and C of 18 bits each, behind the kind
+abbrev pub timesIn : List ℕ → ℕ × ℕ × ℕ
+timesIn rest = (field rest 3 18, field rest 21 18, field rest 39 18)
 
--- kind 1: T, D, C, L of 18 bits each, 5 zero bits
+-- kind 0: T, D, C, 7 zero bits
+abbrev pub helperIn : List ℕ → ℕ → Result RowNumbers Refusal
+helperIn rest rows = rowIn rest 8 (field rest 57 7) (Helper (timesIn rest .0) (timesIn rest .1) (timesIn rest .2)) rows
+
+-- kind 1: T, D, C, L of 18 bits, 5 zero bits
 abbrev pub trackIn : List ℕ → ℕ → Result RowNumbers Refusal
-trackIn rest rows = rowIn rest 10 (field rest 75 5) (Track (field rest 3 18) (field rest 21 18) (field rest 39 18) (field rest 57 18)) rows
+trackIn rest rows = rowIn rest 10 (field rest 75 5) (Track (timesIn rest .0) (timesIn rest .1) (timesIn rest .2) (field rest 57 18)) rows
 
 abbrev pub printable : ℕ → Bool
 printable b = leb 0x20 b && leb b 0x7e

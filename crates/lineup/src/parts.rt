@@ -3,7 +3,7 @@ ghost use mathlib.Core.Path.{_≡_};
 ghost use mathlib.Core.Bool.{Bool};
 ghost use Prim.Native.Nat.{_+_, _*_, _≤_};
 ghost use lib.ListN.{length};
-ghost use Rattle.lineup.specs.Reading.{rowOf, helperIn, trackIn, printable, allPrintable, goodLabel, labelIn, endIn};
+ghost use Rattle.lineup.specs.Reading.{rowOf, timesIn, helperIn, trackIn, printable, allPrintable, goodLabel, labelIn, endIn};
 ghost use Rattle.lineup.specs.Records.{bytesRead};
 use super::fields::read_field;
 use row::Refusal;
@@ -26,6 +26,14 @@ fn admit_row(numbers: RowNumbers, rows: usize) -> Result<RowNumbers, Refusal>
     Ok(numbers)
 }
 
+// Period, deadline and short budget, which stand at the same bits in both kinds of row.
+fn times(rest: &[u8]) -> (u32, u32, u32)
+    requires { ⌜ 8 ≤ length (now rest) ⌝ }
+    ensures { λ r. ⌜ r ≡ timesIn (now (rest .entry)) ⌝ }
+{
+    (read_field(rest, 3, 18), read_field(rest, 21, 18), read_field(rest, 39, 18))
+}
+
 pub(crate) fn helper_in(rest: &[u8], rows: usize) -> Result<RowNumbers, Refusal>
     ensures { λ r. ⌜ r ≡ helperIn (now (rest .entry)) rows ⌝ }
 {
@@ -35,9 +43,7 @@ pub(crate) fn helper_in(rest: &[u8], rows: usize) -> Result<RowNumbers, Refusal>
     if read_field(rest, 57, 7) != 0 {
         return Err(Refusal::FillingNotZero);
     }
-    let period = read_field(rest, 3, 18);
-    let deadline = read_field(rest, 21, 18);
-    let short = read_field(rest, 39, 18);
+    let (period, deadline, short) = times(rest);
     admit_row(RowNumbers::Helper { period, deadline, short }, rows)
 }
 
@@ -50,9 +56,7 @@ pub(crate) fn track_in(rest: &[u8], rows: usize) -> Result<RowNumbers, Refusal>
     if read_field(rest, 75, 5) != 0 {
         return Err(Refusal::FillingNotZero);
     }
-    let period = read_field(rest, 3, 18);
-    let deadline = read_field(rest, 21, 18);
-    let short = read_field(rest, 39, 18);
+    let (period, deadline, short) = times(rest);
     let long = read_field(rest, 57, 18);
     admit_row(RowNumbers::Track { period, deadline, short, long }, rows)
 }

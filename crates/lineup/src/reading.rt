@@ -90,19 +90,16 @@ impl<'a> Reader<'a> {
         ensures place { λ _. ⌜ placeOf (now (self .exit)) ≡ behind (placeOf (now (self .entry))) (itemOf (now (seen .entry))) ⌝ }
         ensures input { λ _. ⌜ inputOf (now (self .exit)) ≡ inputOf (now (self .entry)) ⌝ }
     {
+        self.after_row = false;
         match seen {
             Record::Row(numbers) => {
                 self.at += row_size(numbers);
                 self.rows += 1;
                 self.after_row = true;
             }
-            Record::Label { bytes, .. } => {
-                self.at += 1 + bytes.len();
-                self.after_row = false;
-            }
+            Record::Label { bytes, .. } => self.at += 1 + bytes.len(),
             Record::End => {
                 self.at += 1;
-                self.after_row = false;
                 self.ended = true;
             }
         }

@@ -1,0 +1,4 @@
+pub mod Appended
+pub mod Lengths
+pub mod Copied
+pub mod Single

@@ -1,0 +1,12 @@
+pub mod Quotients
+pub mod Shares
+pub mod Demands
+pub mod Leasts
+pub mod Greatests
+pub mod Uniques
+pub mod Lates
+pub mod Fronts
+pub mod Made
+pub mod SameRows
+pub mod Accepting
+pub mod OneAnswer

@@ -1,0 +1,70 @@
+// Judging a list of rows: the plan is filled, or the first check that applies refuses it.
+ghost use mathlib.Core.Path.{_≡_};
+ghost use mathlib.Core.Bool.{false};
+ghost use mathlib.Core.List.{map};
+ghost use Prim.Native.Nat.{ℕ, _≤_, _<_};
+ghost use lib.ListN.{length, take};
+ghost use Rattle.std.specs.Results.{Cases};
+ghost use Rattle.row.specs.Rows.{numbersOf};
+ghost use Rattle.judge.specs.Accepted.{Accepted};
+ghost use Rattle.judge.specs.Judged.{allKeep, FailsFirst, Refused};
+ghost use Rattle.judge.specs.Plan.{Filled};
+ghost use Rattle.judge.specs.Determined.{Determined};
+ghost use Rattle.judge.specs.declared.bounds.JudgeFault.the-variants.{OutsideLimits};
+use super::bounds::Bounds;
+use super::bounds::JudgeFault;
+use super::passing::pass;
+use super::plan::NO_BOUNDS;
+use super::plan::NO_ROW;
+use super::plan::Plan;
+use row::Row;
+use row::RowNumbers;
+
+// Fills the plan with the rows of these numbers and their bounds. A refusal leaves the plan as it was.
+pub fn judge(plan: &mut Plan, given: &[RowNumbers]) -> Result<(), JudgeFault>
+    ensures answer { λ r. ⌜ Cases r (λ _. Filled (now (given .entry)) (now (plan .exit))) (λ f. (now (plan .exit) ≡ now (plan .entry)) × Refused (now (given .entry)) f) ⌝ }
+    ensures determined { λ _. ⌜ Determined ⌝ }
+{
+    let count = given.len();
+    if count > 32 {
+        return Err(JudgeFault::TooManyRows(count as u64));
+    }
+    if count == 0 {
+        return Err(JudgeFault::NoRows);
+    }
+    let rows = make_rows(given)?;
+    let bounds = bound_rows(&rows[0..count])?;
+    *plan = Plan {
+        rows,
+        bounds,
+        count,
+    };
+    Ok(())
+}
+
+// The rows of these numbers, from the front of the array on.
+fn make_rows(given: &[RowNumbers]) -> Result<[Row; 32], JudgeFault>
+    requires { ⌜ length (now given) ≤ 32 ⌝ }
+    ensures { λ r. ⌜ Cases r (λ rows. (length rows ≡ 32) × (map numbersOf (take (length (now (given .entry))) rows) ≡ now (given .entry))) (λ f. (f ≡ OutsideLimits) × (allKeep (now (given .entry)) ≡ false)) ⌝ }
+{
+    let mut rows = [NO_ROW; 32];
+    for (place, numbers) in given.iter().enumerate() {
+        let Ok(row) = Row::new(*numbers) else {
+            return Err(JudgeFault::OutsideLimits);
+        };
+        rows[place] = row;
+    }
+    Ok(rows)
+}
+
+// The bounds of each row, from the front of the array on, or the first row's failure.
+fn bound_rows(rows: &[Row]) -> Result<[Bounds; 32], JudgeFault>
+    requires { ⌜ length (now rows) ≤ 32 ⌝ }
+    ensures { λ r. ⌜ Cases r (λ bounds. (length bounds ≡ 32) × Accepted (now (rows .entry)) (take (length (now (rows .entry))) bounds)) (FailsFirst (now (rows .entry))) ⌝ }
+{
+    let mut bounds = [NO_BOUNDS; 32];
+    for (place, row) in rows.iter().enumerate() {
+        bounds[place] = pass(&rows[0..place], row, place as u64)?;
+    }
+    Ok(bounds)
+}
