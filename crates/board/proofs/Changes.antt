@@ -51,8 +51,8 @@ module _ (board : ChainBoard) where
   pub head-below : (row : ℕ) → member rows row ≡ false → row < 32 → board .head ≤ row → board .head < row
   head-below row absent h l =
       elim (cases-eq (board .head) row) [
-        inl same ↦ absurd (both-ways _ absent (subst (λ k. member rows k ≡ true) same (head-on (omega arith))))
-      | inr ne ↦ omega arith
+        | inl same ↦ absurd (both-ways _ absent (subst (λ k. member rows k ≡ true) same (head-on (omega arith))))
+        | inr ne ↦ omega arith
       ]
 
   -- the link of a row leads on, to a larger row or to the end
@@ -86,8 +86,8 @@ module _ (board : ChainBoard) where
   past-absent : (p r : ℕ) → LastBelow (board .links) r p → member rows r ≡ false → r < 32 → r < getD (board .links) p 0
   past-absent p r (on-p, below, behind) absent h =
       elim (cases-eq (getD (board .links) p 0) r) [
-        inl same ↦ absurd (both-ways _ absent (subst (λ k. member rows k ≡ true) same (link-on p on-p (omega arith))))
-      | inr ne ↦ omega arith
+        | inl same ↦ absurd (both-ways _ absent (subst (λ k. member rows k ≡ true) same (link-on p on-p (omega arith))))
+        | inr ne ↦ omega arith
       ]
 
   pub linked-after : (p r : ℕ) → LastBelow (board .links) r p → member rows r ≡ false → r < 32

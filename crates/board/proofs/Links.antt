@@ -28,8 +28,7 @@ ordered links head b g = record {
 
 pub in-order : (links : List ℕ) (xs : List Bool) (head : ℕ) → onChain links ≡ xs → Ordered links xs head → Begins head links × GoesOn links
 in-order links xs head e o =
-    let same : Ordered links (onChain links) head = subst (λ ys. Ordered links ys head) (sym e) o in
-    (
+    let same : Ordered links (onChain links) head = subst (λ ys. Ordered links ys head) (sym e) o in (
       follows-one (onChain links) 0 head _ (same .first) (next-follows (onChain links) 0 (omega arith)),
       λ k m. follows-one (onChain links) (suc k) _ _ (same .next k m) (next-follows (onChain links) (suc k) (member-within (onChain links) k m)),
     )
@@ -49,14 +48,15 @@ module _ (links : List ℕ) (xs : List Bool) (head r : ℕ) (many : length links
     where
       within : r < length links
       within = let w = o .first .within in omega arith
+
       next : (k : ℕ) → member (set xs r true) k ≡ true → Follows (set xs r true) (suc k) (getD (set links r head) k 0)
       next k e =
           elim (cases-eq k r) [
-            inl same ↦ at _ _ k r head same (getD-set-same links r head 0 within) (join-behind xs 0 head r (o .first) (omega arith) h)
-          | inr ne ↦
-              let on = was true k ne e in
-              let past = not-before xs 0 head k (o .first) (omega arith) on in
-              subst (Follows (set xs r true) (suc k)) (sym (getD-set-other links r k head 0 ne)) (keep xs (suc k) _ r true (o .next k on) (inl (omega arith)))
+            | inl same ↦ at _ _ k r head same (getD-set-same links r head 0 within) (join-behind xs 0 head r (o .first) (omega arith) h)
+            | inr ne ↦
+                let on = was true k ne e in
+                let past = not-before xs 0 head k (o .first) (omega arith) on in
+                subst (Follows (set xs r true) (suc k)) (sym (getD-set-other links r k head 0 ne)) (keep xs (suc k) _ r true (o .next k on) (inl (omega arith)))
           ]
 
   -- the first row r leaves
@@ -65,14 +65,15 @@ module _ (links : List ℕ) (xs : List Bool) (head r : ℕ) (many : length links
     where
       start : Follows xs 0 r
       start = subst (Follows xs 0) same (o .first)
+
       next : (k : ℕ) → member (set xs r false) k ≡ true → Follows (set xs r false) (suc k) (getD (set links r off) k 0)
       next k e =
           elim (cases-eq k r) [
-            inl same ↦ absurd (both-ways _ (ap (member (set xs r false)) same ∙ getD-set-same xs r false false h) e)
-          | inr ne ↦
-              let on = was false k ne e in
-              let past = not-before xs 0 r k start (omega arith) on in
-              subst (Follows (set xs r false) (suc k)) (sym (getD-set-other links r k off 0 ne)) (keep xs (suc k) _ r false (o .next k on) (inl (omega arith)))
+            | inl same ↦ absurd (both-ways _ (ap (member (set xs r false)) same ∙ getD-set-same xs r false false h) e)
+            | inr ne ↦
+                let on = was false k ne e in
+                let past = not-before xs 0 r k start (omega arith) on in
+                subst (Follows (set xs r false) (suc k)) (sym (getD-set-other links r k off 0 ne)) (keep xs (suc k) _ r false (o .next k on) (inl (omega arith)))
           ]
 
   module _ (p : ℕ) (on-p : member xs p ≡ true) (below : p < r) where
@@ -80,8 +81,8 @@ module _ (links : List ℕ) (xs : List Bool) (head r : ℕ) (many : length links
     beside : (k q : ℕ) → getD links p 0 ≡ q → r ≤ q → ¬ (k ≡ p) → ¬ (k ≡ r) → member xs k ≡ true → (r < suc k) ⊎ (getD links k 0 < r)
     beside k q f h ne nr on =
         elim (cases-lt k p) [
-          inl l ↦ inr (let j = not-before xs (suc k) _ p (o .next k on) l on-p in omega arith)
-        | inr l ↦ inl (let j = not-before xs (suc p) _ k (o .next p on-p) (omega arith) on in omega arith)
+          | inl l ↦ inr (let j = not-before xs (suc k) _ p (o .next k on) l on-p in omega arith)
+          | inr l ↦ inl (let j = not-before xs (suc p) _ k (o .next p on-p) (omega arith) on in omega arith)
         ]
 
     -- r joins behind p, the last row below it
@@ -90,22 +91,24 @@ module _ (links : List ℕ) (xs : List Bool) (head r : ℕ) (many : length links
       where
         behind : Follows xs (suc p) q
         behind = subst (Follows xs (suc p)) f (o .next p on-p)
+
         within : r < length links
         within = let w = behind .within in omega arith
+
         next : (k : ℕ) → member (set xs r true) k ≡ true → Follows (set xs r true) (suc k) (getD (set (set links r q) p r) k 0)
         next k e =
             elim (cases-eq k p) [
-              inl same ↦ at _ _ k p r same (getD-set-same (set links r q) p r 0 (omega (arith, within, length-set links r q))) (join-before xs (suc p) q r behind below h)
-            | inr ne ↦
-                elim (cases-eq k r) [
-                  inl same ↦
-                    at _ _ k r q same (getD-set-other (set links r q) p r r 0 (omega arith) ∙ getD-set-same links r q 0 within)
-                    (join-behind xs (suc p) q r behind below h)
-                | inr nr ↦
-                    let on = was true k nr e in
-                    let link = getD-set-other (set links r q) p k r 0 ne ∙ getD-set-other links r k q 0 nr in
-                    subst (Follows (set xs r true) (suc k)) (sym link) (keep xs (suc k) _ r true (o .next k on) (beside k q f (omega arith) ne nr on))
-                ]
+              | inl same ↦ at _ _ k p r same (getD-set-same (set links r q) p r 0 (omega (arith, within, length-set links r q))) (join-before xs (suc p) q r behind below h)
+              | inr ne ↦
+                  elim (cases-eq k r) [
+                    | inl same ↦
+                        at _ _ k r q same (getD-set-other (set links r q) p r r 0 (omega arith) ∙ getD-set-same links r q 0 within)
+                        (join-behind xs (suc p) q r behind below h)
+                    | inr nr ↦
+                        let on = was true k nr e in
+                        let link = getD-set-other (set links r q) p k r 0 ne ∙ getD-set-other links r k q 0 nr in
+                        subst (Follows (set xs r true) (suc k)) (sym link) (keep xs (suc k) _ r true (o .next k on) (beside k q f (omega arith) ne nr on))
+                  ]
             ]
 
     -- r, which stands behind p, leaves
@@ -114,20 +117,22 @@ module _ (links : List ℕ) (xs : List Bool) (head r : ℕ) (many : length links
       where
         behind : Follows xs (suc p) r
         behind = subst (Follows xs (suc p)) f (o .next p on-p)
+
         further : Follows xs (suc r) q
         further = subst (Follows xs (suc r)) g (o .next r (behind .found h))
+
         next : (k : ℕ) → member (set xs r false) k ≡ true → Follows (set xs r false) (suc k) (getD (set (set links p q) r off) k 0)
         next k e =
             elim (cases-eq k r) [
-              inl same ↦ absurd (both-ways _ (ap (member (set xs r false)) same ∙ getD-set-same xs r false false h) e)
-            | inr nr ↦
-                elim (cases-eq k p) [
-                  inl same ↦
-                    at _ _ k p q same (getD-set-other (set links p q) r p off 0 (omega arith) ∙ getD-set-same links p q 0 (omega arith))
-                    (leave-between xs (suc p) r q behind h further)
-                | inr ne ↦
-                    let on = was false k nr e in
-                    let link = getD-set-other (set links p q) r k off 0 nr ∙ getD-set-other links p k q 0 ne in
-                    subst (Follows (set xs r false) (suc k)) (sym link) (keep xs (suc k) _ r false (o .next k on) (beside k r f (omega arith) ne nr on))
-                ]
+              | inl same ↦ absurd (both-ways _ (ap (member (set xs r false)) same ∙ getD-set-same xs r false false h) e)
+              | inr nr ↦
+                  elim (cases-eq k p) [
+                    | inl same ↦
+                        at _ _ k p q same (getD-set-other (set links p q) r p off 0 (omega arith) ∙ getD-set-same links p q 0 (omega arith))
+                        (leave-between xs (suc p) r q behind h further)
+                    | inr ne ↦
+                        let on = was false k nr e in
+                        let link = getD-set-other (set links p q) r k off 0 nr ∙ getD-set-other links p k q 0 ne in
+                        subst (Follows (set xs r false) (suc k)) (sym link) (keep xs (suc k) _ r false (o .next k on) (beside k r f (omega arith) ne nr on))
+                  ]
             ]

@@ -59,9 +59,9 @@ next-follows xs k h =
 pub follows-one : (xs : List Bool) (k i j : ℕ) → Follows xs k i → Follows xs k j → i ≡ j
 follows-one xs k i j p q =
     elim (cases-order i j) [
-      inl e ↦ e
-    | inr (inl h) ↦ absurd (both-ways (member xs i) (q .gap i (p .behind) h) (p .found (omega arith)))
-    | inr (inr h) ↦ absurd (both-ways (member xs j) (p .gap j (q .behind) h) (q .found (omega arith)))
+      | inl e ↦ e
+      | inr (inl h) ↦ absurd (both-ways (member xs i) (q .gap i (p .behind) h) (p .found (omega arith)))
+      | inr (inr h) ↦ absurd (both-ways (member xs j) (p .gap j (q .behind) h) (q .found (omega arith)))
     ]
 
 -- a member from k on does not stand before what follows
@@ -123,9 +123,9 @@ leave-between xs k r q p h s =
     gap : (i : ℕ) → k ≤ i → i < q → member (set xs r false) i ≡ false
     gap i l below =
         elim (cases-order i r) [
-          inl e ↦ ap (λ m. member (set xs r false) m) e ∙ getD-set-same xs r false false h
-        | inr (inl m) ↦ getD-set-other xs r i false false (omega arith) ∙ p .gap i l m
-        | inr (inr m) ↦ getD-set-other xs r i false false (omega arith) ∙ s .gap i m below
+          | inl e ↦ ap (λ m. member (set xs r false) m) e ∙ getD-set-same xs r false false h
+          | inr (inl m) ↦ getD-set-other xs r i false false (omega arith) ∙ p .gap i l m
+          | inr (inr m) ↦ getD-set-other xs r i false false (omega arith) ∙ s .gap i m below
         ]
 
 -- what follows 0 is the smallest member
@@ -136,9 +136,9 @@ follows-smallest xs j p h = go (smallest xs) (smallest-least xs (smallest xs) re
     go None s = absurd (both-ways (member xs j) (s j) (p .found h))
     go (Some k) s =
         elim (cases-order k j) [
-          inl e ↦ ap Some e
-        | inr (inl l) ↦ absurd (both-ways (member xs k) (p .gap k (omega arith) l) (s .0))
-        | inr (inr l) ↦ absurd (both-ways (member xs j) (s .1 j l) (p .found h))
+          | inl e ↦ ap Some e
+          | inr (inl l) ↦ absurd (both-ways (member xs k) (p .gap k (omega arith) l) (s .0))
+          | inr (inr l) ↦ absurd (both-ways (member xs j) (s .1 j l) (p .found h))
         ]
 
 -- and where that is the end, there is none

@@ -127,6 +127,10 @@ pub impl Board for ChainBoard as BoardInChain {
     }
 
     fn first(&self) -> Option<u32> {
-        if self.head < ROWS { Some(self.head) } else { None }
+        if self.head < ROWS {
+            Some(self.head)
+        } else {
+            None
+        }
     }
 }

@@ -4,13 +4,14 @@ ghost use mathlib.Core.Bool.{Bool};
 ghost use mathlib.Core.List.{List};
 ghost use lib.ListN.{length};
 ghost use Rattle.sets.specs.Sets.{empty, member, joins, joined, left, smallest, IsSmallest};
+
 mod chain;
 mod word;
 
 pub use chain::BoardInChain;
 pub use chain::ChainBoard;
-pub use word::WordBoard;
 pub use word::BoardInWord;
+pub use word::WordBoard;
 
 // A board is a set of row numbers from 0 to 31. What a call does not name stays as it was.
 pub trait Board {

@@ -1,7 +1,8 @@
 // Read, judge, list.
 ghost use mathlib.Core.Path.{_≡_};
 ghost use mathlib.Core.List.{List};
-ghost use Prim.Native.Nat.{ℕ};
+ghost use Prim.Native.Nat.{ℕ, _≤_};
+ghost use lib.ListN.{length};
 ghost use Rattle.std.specs.Results.{Cases};
 ghost use Rattle.check.specs.Listing.{rowsIn, Faulty, Planned, Listing, Written, OneListing};
 ghost use Rattle.check.specs.Texts.{textOf};
@@ -39,6 +40,7 @@ fn listing_text(input: &[u8]) -> Text
 #[unsafe(no_mangle)]
 pub extern "C" fn check_lineup(input: &[u8], output: &mut [u8]) -> usize
     ensures listed { λ r. ⌜ ((text : List ℕ) × Listing (now (input .entry)) text × Written text (now (output .entry)) (now (output .exit)) r) ⌝ }
+    ensures bound { λ r. ⌜ r ≤ length (now (output .exit)) ⌝ }
     ensures single { λ _. ⌜ OneListing ⌝ }
 {
     let text = listing_text(input);

@@ -37,8 +37,9 @@ module _ (rows : List Row) (bounds : List Bounds) where
       PassTo i rows bounds → Passes (take i rows) row new → PassTo (i + 1) rows (set bounds i new)
   pass-more i row new within inside read before passes j below r b =
       elim (cases-lt j i) [
-        inl past ↦ let other : j ≢ i = omega arith in rw (getD-set-other bounds i j new b other) (before j past r b)
-      | inr last ↦ let same : i ≡ j = omega arith in subst (λ k. Passes (take k rows) (getD rows k r) (getD (set bounds i new) k b)) same here ]
+        | inl past ↦ let other : j ≢ i = omega arith in rw (getD-set-other bounds i j new b other) (before j past r b)
+        | inr last ↦ let same : i ≡ j = omega arith in subst (λ k. Passes (take k rows) (getD rows k r) (getD (set bounds i new) k b)) same here
+      ]
     where
       here : Passes (take i rows) (getD rows i r) (getD (set bounds i new) i b)
       here = rw (getD-set-same bounds i new b inside, ← (getD-read rows i row within read r)) passes

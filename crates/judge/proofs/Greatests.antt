@@ -23,8 +23,9 @@ module _ (Value : ℕ → ℕ → Type 0) where
       each : (s : ℕ) → s < n + 1 → (w : ℕ) × Value s w × (w ≤ max m v)
       each s below =
           elim (cases-lt s n) [
-            inl before ↦ let old = far .each s before in (old .0, old .1, let le = old .2 in omega arith)
-          | inr past ↦ let here : n ≡ s = omega arith in (v, subst (λ x. Value x v) here value, omega arith) ]
+            | inl before ↦ let old = far .each s before in (old .0, old .1, let le = old .2 in omega arith)
+            | inr past ↦ let here : n ≡ s = omega arith in (v, subst (λ x. Value x v) here value, omega arith)
+          ]
 
       newest : max m v ≡ v → (s : ℕ) × (s < n + 1) × Value s (max m v)
       newest e = (n, omega arith, subst (λ x. Value n x) (sym e) value)
@@ -32,10 +33,12 @@ module _ (Value : ℕ → ℕ → Type 0) where
       some : (s : ℕ) × (s < n + 1) × Value s (max m v)
       some =
           elim (cases-lt n 1) [
-            inl first ↦ let zero = far .none first in newest (omega arith)
-          | inr later ↦ elim (cases-lt m v) [
-              inl greater ↦ newest (omega arith)
-            | inr less ↦ let old = far .some later in let same : m ≡ max m v = omega arith in (old .0, let le = old .1 in omega arith, subst (λ x. Value (old .0) x) same (old .2)) ] ]
+            | inl first ↦ let zero = far .none first in newest (omega arith)
+            | inr later ↦ elim (cases-lt m v) [
+              | inl greater ↦ newest (omega arith)
+              | inr less ↦ let old = far .some later in let same : m ≡ max m v = omega arith in (old .0, let le = old .1 in omega arith, subst (λ x. Value (old .0) x) same (old .2))
+            ]
+          ]
 
   pub greatest : (n m : ℕ) → 1 ≤ n → SoFar n Value m → Greatest n Value m
   greatest n m some far = record { each = far .each; some = far .some some }

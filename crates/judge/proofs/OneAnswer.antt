@@ -52,9 +52,9 @@ passes-single above r a b p q =
 accepted-single : (rows : List Row) → AtMostOne (Accepted rows)
 accepted-single rows a b p q =
     same-lists a b (p .many ∙ sym (q .many)) (λ k d below.
-        let within : k < length rows = omega (arith, p .many) in
-        let r = some-row rows k within in
-        passes-single (take k rows) (getD rows k r) (getD a k d) (getD b k d) (p .each k within r d) (q .each k within r d))
+    let within : k < length rows = omega (arith, p .many) in
+    let r = some-row rows k within in
+    passes-single (take k rows) (getD rows k r) (getD a k d) (getD b k d) (p .each k within r d) (q .each k within r d))
 
 filled-single : (given : List RowNumbers) (p q : Plan) → Filled given p → Filled given q → (rowsOf p ≡ rowsOf q) × (boundsOf p ≡ boundsOf q)
 filled-single given p q f g =
@@ -98,9 +98,10 @@ module _ (above : List Row) (r : Row) (i : ℕ) where
   fails-apart : (b : Bounds) (f : JudgeFault) → Passes above r b → FailsBy above r i f → ⊥
   fails-apart b f p fails =
       elim (stage f fails) [
-        inl s ↦ s .1 (b .normal, p .normal, p .inTime)
-      | inr (inl s) ↦ s .1 .2 (late-in-time above r (b .late) (s .1 .0) (p .late) .0)
-      | inr (inr s) ↦ s .1 .3 (late-in-time above r (b .late) (s .1 .0) (p .late) .1) ]
+        | inl s ↦ s .1 (b .normal, p .normal, p .inTime)
+        | inr (inl s) ↦ s .1 .2 (late-in-time above r (b .late) (s .1 .0) (p .late) .0)
+        | inr (inr s) ↦ s .1 .3 (late-in-time above r (b .late) (s .1 .0) (p .late) .1)
+      ]
 
 module _ (rows : List Row) where
   -- a row that fails has no row before it that fails
@@ -113,14 +114,16 @@ module _ (rows : List Row) where
   first-single : AtMostOne (FailsFirst rows)
   first-single f g p q =
       elim (cases-lt (p .place) (q .place)) [
-        inl less ↦ absurd (not-before f g p q less)
-      | inr more ↦ elim (cases-lt (q .place) (p .place)) [
-          inl less ↦ absurd (not-before g f q p less)
-        | inr least ↦
-            let same : p .place ≡ q .place = omega arith in
-            let r = some-row rows (q .place) (q .within) in
-            let moved = subst (λ k. FailsBy (take k rows) (getD rows k r) k f) same (p .fails r) in
-            fails-single (take (q .place) rows) (getD rows (q .place) r) (q .place) f g moved (q .fails r) ] ]
+        | inl less ↦ absurd (not-before f g p q less)
+        | inr more ↦ elim (cases-lt (q .place) (p .place)) [
+          | inl less ↦ absurd (not-before g f q p less)
+          | inr least ↦
+              let same : p .place ≡ q .place = omega arith in
+              let r = some-row rows (q .place) (q .within) in
+              let moved = subst (λ k. FailsBy (take k rows) (getD rows k r) k f) same (p .fails r) in
+              fails-single (take (q .place) rows) (getD rows (q .place) r) (q .place) f g moved (q .fails r)
+        ]
+      ]
 
   first-apart : (bounds : List Bounds) (f : JudgeFault) → Accepted rows bounds → FailsFirst rows f → ⊥
   first-apart bounds f a p =
@@ -151,8 +154,10 @@ module _ (given : List RowNumbers) where
   failure : (i : ℕ) (f : JudgeFault) (Fails : List Row → Row → Type 0) →
       ((rows : List Row) (r : Row) → Fails (take i rows) (getD rows i r) → FailsBy (take i rows) (getD rows i r) i f) → FirstFailure given i Fails → Failing f
   failure i f Fails by p = record {
-    rows = p .rows; made = p .made; few = p .few;
-    first = record { place = i; within = p .within; before = p .before; fails = λ r. by (p .rows) r (p .fails r) }
+    rows = p .rows;
+    made = p .made;
+    few = p .few;
+    first = record { place = i; within = p .within; before = p .before; fails = λ r. by (p .rows) r (p .fails r) };
   }
 
   cause : (f : JudgeFault) → Refused given f → (early given ≡ Some f) ⊎ Failing f
@@ -178,16 +183,18 @@ module _ (given : List RowNumbers) where
   refused-single : AtMostOne (Refused given)
   refused-single f g p q =
       elim (cause f p) [
-        inl a ↦ elim (cause g q) [ inl b ↦ cc | inr b ↦ let none = failing-early g b in cc ]
-      | inr a ↦ elim (cause g q) [ inl b ↦ let none = failing-early f a in cc | inr b ↦ failing-single f g a b ] ]
+        | inl a ↦ elim (cause g q) [ inl b ↦ cc | inr b ↦ let none = failing-early g b in cc ]
+        | inr a ↦ elim (cause g q) [ inl b ↦ let none = failing-early f a in cc | inr b ↦ failing-single f g a b ]
+      ]
 
   apart : (p : Plan) (f : JudgeFault) → Filled given p → Refused given f → ⊥
   apart p f filled refused =
       elim (cause f refused) [
-        inl a ↦ let none = none-early (rowsOf p) (filled .made) (filled .some) (filled .few) in let z : _≡_ {A = ℕ} 0 1 = cc in omega arith
-      | inr a ↦
-          let same = same-rows (a .rows) (rowsOf p) (a .made ∙ sym (filled .made)) in
-          first-apart (rowsOf p) (boundsOf p) f (filled .accepted) (subst (λ rows. FailsFirst rows f) same (a .first)) ]
+        | inl a ↦ let none = none-early (rowsOf p) (filled .made) (filled .some) (filled .few) in let z : _≡_ {A = ℕ} 0 1 = cc in omega arith
+        | inr a ↦
+            let same = same-rows (a .rows) (rowsOf p) (a .made ∙ sym (filled .made)) in
+            first-apart (rowsOf p) (boundsOf p) f (filled .accepted) (subst (λ rows. FailsFirst rows f) same (a .first))
+      ]
 
 pub determined : Determined
 determined = record {

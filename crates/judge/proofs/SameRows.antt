@@ -24,16 +24,21 @@ same-row (Track r) (Track s) e =
     let C : r .short ≡ s .short = cc in
     let L : r .long ≡ s .long = cc in
     λ i. Track (record {
-      period = T i; deadline = D i; short = C i; long = L i;
-      limits = isProp→PathP (λ j. Limits (T j) (D j) (C j) (L j)) (λ j. limits-prop (T j) (D j) (C j) (L j)) (r .limits) (s .limits) i
+      period = T i;
+      deadline = D i;
+      short = C i;
+      long = L i;
+      limits = isProp→PathP (λ j. Limits (T j) (D j) (C j) (L j)) (λ j. limits-prop (T j) (D j) (C j) (L j)) (r .limits) (s .limits) i;
     })
 same-row (Helper r) (Helper s) e =
     let T : r .period ≡ s .period = cc in
     let D : r .deadline ≡ s .deadline = cc in
     let C : r .short ≡ s .short = cc in
     λ i. Helper (record {
-      period = T i; deadline = D i; short = C i;
-      limits = isProp→PathP (λ j. Limits (T j) (D j) (C j) (C j)) (λ j. limits-prop (T j) (D j) (C j) (C j)) (r .limits) (s .limits) i
+      period = T i;
+      deadline = D i;
+      short = C i;
+      limits = isProp→PathP (λ j. Limits (T j) (D j) (C j) (C j)) (λ j. limits-prop (T j) (D j) (C j) (C j)) (r .limits) (s .limits) i;
     })
 same-row (Track r) (Helper s) e = let z : _≡_ {A = ℕ} 0 1 = cc in let b : ⊥ = omega arith in absurd b
 same-row (Helper r) (Track s) e = let z : _≡_ {A = ℕ} 0 1 = cc in let b : ⊥ = omega arith in absurd b
@@ -47,7 +52,7 @@ same-rows (r ∷ rows) [] e = let z : _≡_ {A = ℕ} 0 1 = cc in let b : ⊥ = 
 limits-within : (T D C L : ℕ) → Limits T D C L → within T D C L ≡ true
 limits-within T D C L (l) =
     and-from (leb 1 C) _ (le-leb 1 C (l .0)) (and-from (leb C L) _ (le-leb C L (l .1)) (and-from (leb L D) _ (le-leb L D (l .2))
-        (and-from (leb D T) _ (le-leb D T (l .3)) (le-leb T 262143 (l .4)))))
+    (and-from (leb D T) _ (le-leb D T (l .3)) (le-leb T 262143 (l .4)))))
 
 row-keeps : (r : Row) → keeps (numbersOf r) ≡ true
 row-keeps (Track r) = limits-within (r .period) (r .deadline) (r .short) (r .long) (r .limits)

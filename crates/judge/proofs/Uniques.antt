@@ -9,13 +9,12 @@ use Rattle.row.specs.declared.rows.Row.{Row}
 use Rattle.judge.specs.Determined.{AtMostOne}
 use Rattle.judge.specs.Bounds.{Least, Greatest, NormalBound, LateFinish, LatestStart, MixedBound, LongBound}
 
-
-
 pub least-single : (P : ℕ → Type 0) → AtMostOne (Least P)
 least-single P t u p q =
     elim (cases-lt t u) [
-      inl less ↦ let b : ⊥ = q .first t less (p .holds) in absurd b
-    | inr more ↦ elim (cases-lt u t) [ inl less ↦ let b : ⊥ = p .first u less (q .holds) in absurd b | inr same ↦ omega arith ] ]
+      | inl less ↦ let b : ⊥ = q .first t less (p .holds) in absurd b
+      | inr more ↦ elim (cases-lt u t) [ inl less ↦ let b : ⊥ = p .first u less (q .holds) in absurd b | inr same ↦ omega arith ]
+    ]
 
 greatest-least : (n : ℕ) (Value : ℕ → ℕ → Type 0) → ((s : ℕ) → AtMostOne (Value s)) → (t u : ℕ) → Greatest n Value t → Greatest n Value u → t ≤ u
 greatest-least n Value single t u p q =
@@ -35,7 +34,7 @@ pub mixed-single : (above : List Row) (C : ℕ) → AtMostOne (MixedBound above 
 mixed-single above C t u p q =
     let normal = least-single _ (q .normal) (p .normal) (q .isNormal) (p .isNormal) in
     let late = greatest-single (p .normal) (LateFinish above C) (λ s. least-single _) (p .late) (q .late) (p .isLate)
-                (subst (λ n. Greatest n (LateFinish above C) (q .late)) normal (q .isLate)) in
+    (subst (λ n. Greatest n (LateFinish above C) (q .late)) normal (q .isLate)) in
     omega (arith, p .greater, q .greater)
 
 -- at most one value is the late finish less s

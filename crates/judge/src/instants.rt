@@ -27,7 +27,13 @@ impl Origin {
 }
 
 // The greatest late finish over the instants below `instants`, if each exists and is at most `deadline`.
-pub(crate) fn greatest_finish(above: &[Row], budget: u32, origin: Origin, instants: u32, deadline: u32) -> Option<u32>
+pub(crate) fn greatest_finish(
+    above: &[Row],
+    budget: u32,
+    origin: Origin,
+    instants: u32,
+    deadline: u32,
+) -> Option<u32>
     requires few { ⌜ length (now above) ≤ 32 ⌝ }
     requires budgeted { ⌜ 1 ≤ budget ⌝ }
     requires some { ⌜ 1 ≤ instants ⌝ }

@@ -25,6 +25,21 @@ pub fn judge(plan: &mut Plan, given: &[RowNumbers]) -> Result<(), JudgeFault>
     ensures answer { λ r. ⌜ Cases r (λ _. Filled (now (given .entry)) (now (plan .exit))) (λ f. (now (plan .exit) ≡ now (plan .entry)) × Refused (now (given .entry)) f) ⌝ }
     ensures determined { λ _. ⌜ Determined ⌝ }
 {
+    check_count(given)?;
+    let rows = make_rows(given)?;
+    let bounds = bound_rows(&rows[0..given.len()])?;
+    *plan = Plan {
+        rows,
+        bounds,
+        count: given.len(),
+    };
+    Ok(())
+}
+
+// A line-up has 1 to 32 rows.
+fn check_count(given: &[RowNumbers]) -> Result<(), JudgeFault>
+    ensures { λ r. ⌜ Cases r (λ _. (1 ≤ length (now (given .entry))) × (length (now (given .entry)) ≤ 32)) (Refused (now (given .entry))) ⌝ }
+{
     let count = given.len();
     if count > 32 {
         return Err(JudgeFault::TooManyRows(count as u64));
@@ -32,13 +47,6 @@ pub fn judge(plan: &mut Plan, given: &[RowNumbers]) -> Result<(), JudgeFault>
     if count == 0 {
         return Err(JudgeFault::NoRows);
     }
-    let rows = make_rows(given)?;
-    let bounds = bound_rows(&rows[0..count])?;
-    *plan = Plan {
-        rows,
-        bounds,
-        count,
-    };
     Ok(())
 }
 

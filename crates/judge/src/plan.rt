@@ -13,6 +13,7 @@ pub(crate) const NO_ROW: Row = Row::Helper(Helper {
     deadline: 1,
     short: 1,
 });
+
 pub(crate) const NO_BOUNDS: Bounds = Bounds {
     normal: 0,
     late: None,

@@ -5,9 +5,6 @@ ghost use Rattle.judge.specs.Demand.{up, normalShare, lateShare, startShare};
 ghost use Rattle.row.specs.declared.rows.Row.{Row};
 use row::Row;
 
-// The longest window that a demand is asked for: a deadline after the last instant.
-pub const LONGEST: u32 = 524_286;
-
 pub(crate) trait Share {
     // what row r takes of a window of length t
     ghost taken: { Self → ℕ → Row → ℕ };
@@ -51,7 +48,10 @@ pub(crate) impl Share for Late as LateShare {
         match *row {
             Row::Track(track) => {
                 let jobs = rounded_up(window, track.period) as u64;
-                let late_jobs = rounded_up(window.saturating_sub(self.instant), track.period) as u64;
+                let late_jobs = rounded_up(
+                    window.saturating_sub(self.instant),
+                    track.period,
+                ) as u64;
                 jobs * track.short as u64 + late_jobs * (track.long - track.short) as u64
             }
             Row::Helper(helper) => (self.instant / helper.period + 1) as u64 * helper.short as u64,

@@ -74,7 +74,7 @@ module _ (input : List ℕ) (p : Place) (rows : List RowNumbers) (c : Collecting
         reads = g .0;
         enough = omega (arith, size-pos i, g .1);
         left =
-          sym (map-map (λ is. rows ++ rowsAmong is) (λ is. i ∷ is) (decodeFrom (g .0) input (behind p i))
-          ∙ map-same _ _ (λ is. ap (λ x. rows ++ x) (rows-cons i is) ∙ sym (append-assoc rows (rowsAmong (i ∷ [])) (rowsAmong is))) (decodeFrom (g .0) input (behind p i)))
-          ∙ g .2
+            sym (map-map (λ is. rows ++ rowsAmong is) (λ is. i ∷ is) (decodeFrom (g .0) input (behind p i))
+            ∙ map-same _ _ (λ is. ap (λ x. rows ++ x) (rows-cons i is) ∙ sym (append-assoc rows (rowsAmong (i ∷ [])) (rowsAmong is))) (decodeFrom (g .0) input (behind p i)))
+            ∙ g .2;
       }

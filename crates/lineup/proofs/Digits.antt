@@ -24,7 +24,7 @@ value-same f g (suc w) h =
 pub value-below : (f : ℕ → ℕ) (w : ℕ) → ((i : ℕ) → f i < 2) → valueOf f w < 2 ^ w
 unfolding valueOf
 value-below f zero h = omega arith
-value-below f (suc w) h = 
+value-below f (suc w) h =
     let front = value-below f w h in
     let last = h w in
     omega (arith, pow-add 2 w 1)
@@ -79,7 +79,7 @@ field-more bs n small =
     let bit : ℕ → ℕ = λ i. bitAt bs (0 + i) in
     let count : 8 * (n + 1) ≡ 8 * n + 8 = omega arith in
     let last : valueOf (λ i. bit (8 * n + i)) 8 ≡ field bs (8 * n) 8 =
-        value-same (λ i. bit (8 * n + i)) (λ i. bitAt bs (8 * n + i)) 8 (λ i h. ap (bitAt bs) (omega arith)) in
+    value-same (λ i. bit (8 * n + i)) (λ i. bitAt bs (8 * n + i)) 8 (λ i h. ap (bitAt bs) (omega arith)) in
     rw count (omega (arith, value-split bit (8 * n) 8, last, field-byte bs n small))
 
 -- a field of w bits is below 2 ^ w
@@ -116,5 +116,5 @@ field-from-bytes bs o w first past v f p within e =
     let bits : 8 * n ≡ (lead + w) + tail = omega arith in
     let start : 8 * first + 0 + lead ≡ o = omega arith in
     let number : v ≡ field bs (8 * first + 0) ((lead + w) + tail) =
-        e ∙ ap (λ k. field (take n (drop first bs)) 0 (8 * k)) many ∙ part ∙ ap (field bs (8 * first + 0)) bits in
+    e ∙ ap (λ k. field (take n (drop first bs)) 0 (8 * k)) many ∙ part ∙ ap (field bs (8 * first + 0)) bits in
     ap (λ k. k / 2 ^ tail % 2 ^ w) number ∙ field-cut bs (8 * first + 0) lead w tail ∙ ap (λ k. field bs k w) start

@@ -8,9 +8,9 @@ mod records;
 mod row_list;
 mod whole;
 
-pub use records::ReadFault;
 pub use faults::ReadFaultToFault;
 pub use reader::Reader;
+pub use records::ReadFault;
 pub use records::Record;
 pub use row_list::RowList;
 pub use whole::read_rows;

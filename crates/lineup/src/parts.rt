@@ -31,7 +31,11 @@ fn times(rest: &[u8]) -> (u32, u32, u32)
     requires { ⌜ 8 ≤ length (now rest) ⌝ }
     ensures { λ r. ⌜ r ≡ timesIn (now (rest .entry)) ⌝ }
 {
-    (read_field(rest, 3, 18), read_field(rest, 21, 18), read_field(rest, 39, 18))
+    (
+        read_field(rest, 3, 18),
+        read_field(rest, 21, 18),
+        read_field(rest, 39, 18),
+    )
 }
 
 pub(crate) fn helper_in(rest: &[u8], rows: usize) -> Result<RowNumbers, Refusal>
@@ -44,7 +48,14 @@ pub(crate) fn helper_in(rest: &[u8], rows: usize) -> Result<RowNumbers, Refusal>
         return Err(Refusal::FillingNotZero);
     }
     let (period, deadline, short) = times(rest);
-    admit_row(RowNumbers::Helper { period, deadline, short }, rows)
+    admit_row(
+        RowNumbers::Helper {
+            period,
+            deadline,
+            short,
+        },
+        rows,
+    )
 }
 
 pub(crate) fn track_in(rest: &[u8], rows: usize) -> Result<RowNumbers, Refusal>
@@ -58,7 +69,15 @@ pub(crate) fn track_in(rest: &[u8], rows: usize) -> Result<RowNumbers, Refusal>
     }
     let (period, deadline, short) = times(rest);
     let long = read_field(rest, 57, 18);
-    admit_row(RowNumbers::Track { period, deadline, short, long }, rows)
+    admit_row(
+        RowNumbers::Track {
+            period,
+            deadline,
+            short,
+            long,
+        },
+        rows,
+    )
 }
 
 fn is_printable(byte: u8) -> bool

@@ -19,7 +19,12 @@ use row::Refusal;
 use row::RowNumbers;
 
 // The record at the front of what is left of the input, or why there is none.
-fn record_in<'a>(rest: &'a [u8], at: usize, rows: usize, after_row: bool) -> Result<Record<'a>, Refusal>
+fn record_in<'a>(
+    rest: &'a [u8],
+    at: usize,
+    rows: usize,
+    after_row: bool,
+) -> Result<Record<'a>, Refusal>
     requires { ⌜ at + length (now rest) ≤ 18446744073709551615 ⌝ }
     ensures answer { λ r. ⌜ itemRead r ≡ recordIn (now (rest .entry)) at rows «after_row» ⌝ }
     ensures size { λ r. ⌜ made r (λ x. sizeOf (itemOf x) ≤ length (now (rest .entry))) ⌝ }
@@ -31,7 +36,10 @@ fn record_in<'a>(rest: &'a [u8], at: usize, rows: usize, after_row: bool) -> Res
     match read_field(rest, 0, 3) {
         0 => Ok(Record::Row(helper_in(rest, rows)?)),
         1 => Ok(Record::Row(track_in(rest, rows)?)),
-        2 => Ok(Record::Label { offset: at + 1, bytes: label_in(rest, after_row)? }),
+        2 => Ok(Record::Label {
+            offset: at + 1,
+            bytes: label_in(rest, after_row)?,
+        }),
         3 => {
             end_in(rest, rows)?;
             Ok(Record::End)
@@ -74,7 +82,10 @@ impl<'a> Reader<'a> {
         }
         let at = self.at;
         match record_in(&self.input[at..], at, self.rows, self.after_row) {
-            Err(refusal) => Err(ReadFault { refusal, offset: at }),
+            Err(refusal) => Err(ReadFault {
+                refusal,
+                offset: at,
+            }),
             Ok(record) => {
                 self.pass(&record);
                 Ok(Some(record))

@@ -11,6 +11,7 @@ use super::number::blocks_for;
 
 // The link of a block that is not free, and that of the last free block.
 const OFF: u32 = u32::MAX;
+
 const END: u32 = 64;
 
 #[derive(Drop)]

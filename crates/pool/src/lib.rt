@@ -5,6 +5,7 @@ ghost use mathlib.Core.List.{List};
 ghost use Prim.Native.Nat.{_≤_};
 ghost use lib.ListN.{length};
 ghost use Rattle.sets.specs.Sets.{member, joins, joined, without, size, IsMember};
+
 mod bitmap;
 mod free_list;
 mod number;

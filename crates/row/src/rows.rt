@@ -31,8 +31,17 @@ pub enum Row {
 // What a row is made of, as plain numbers of which nothing is known.
 #[derive(Clone, Copy)]
 pub enum RowNumbers {
-    Track { period: u32, deadline: u32, short: u32, long: u32 },
-    Helper { period: u32, deadline: u32, short: u32 },
+    Track {
+        period: u32,
+        deadline: u32,
+        short: u32,
+        long: u32,
+    },
+    Helper {
+        period: u32,
+        deadline: u32,
+        short: u32,
+    },
 }
 
 // A normal job has the short budget, an abnormal one the long budget. Only tracks have abnormal jobs.

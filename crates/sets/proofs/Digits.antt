@@ -58,8 +58,10 @@ digits-flip (suc n) word zero = ap₂ (λ d w. d ∷ digits n w) low rest
   where
     flipped : (d : ℕ) → d < 2 → eqb (bitXor d 1) 1 ≡ not (eqb d 1)
     flipped d h = below-two d h (λ d. eqb (bitXor d 1) 1 ≡ not (eqb d 1)) refl refl
+
     low : eqb (bitXor word 1 % 2) 1 ≡ not (eqb (word % 2) 1)
     low = ap (λ d. eqb d 1) (xor-mod word 1 1) ∙ flipped (word % 2) (omega arith)
+
     rest : bitXor word 1 / 2 ≡ word / 2
     rest = xor-shr word 1 1 ∙ xor-zero-r (word / 2)
 digits-flip (suc n) word (suc k) =
@@ -67,6 +69,7 @@ digits-flip (suc n) word (suc k) =
   where
     low : bitXor word (2 ^ suc k) % 2 ≡ word % 2
     low = xor-mod word (2 ^ suc k) 1 ∙ ap (bitXor (word % 2)) (omega (arith, pow-suc 2 k)) ∙ xor-zero-r (word % 2)
+
     rest : bitXor word (2 ^ suc k) / 2 ≡ bitXor (word / 2) (2 ^ k)
     rest = xor-shr word (2 ^ suc k) 1 ∙ ap (bitXor (word / 2)) (omega (arith, pow-suc 2 k))
 
@@ -97,6 +100,7 @@ digits-full (suc n) = ap₂ (λ d w. eqb d 1 ∷ digits n w) low rest ∙ ap (λ
   where
     low : (2 ^ suc n - 1) % 2 ≡ 1
     low = omega (arith, pow-suc 2 n, pow-pos n)
+
     rest : (2 ^ suc n - 1) / 2 ≡ 2 ^ n - 1
     rest = omega (arith, pow-suc 2 n, pow-pos n)
 
@@ -125,6 +129,7 @@ fewer-trailing (suc n) (suc m) word h = step (word % 2) (fewer-trailing n m (wor
   where
     t : ℕ → ℕ
     t k = trailingZeros k (word / 2)
+
     step : (d : ℕ) → t n ≡ min n (t m) → under d (t n) ≡ min (suc n) (under d (t m))
     step zero e = omega arith
     step (suc d) e = omega arith
@@ -136,6 +141,7 @@ found (suc n) word h = step (word % 2) (omega arith) h (found n (word / 2))
   where
     t : ℕ
     t = trailingZeros n (word / 2)
+
     step : (d : ℕ) → d < 2 → under d t < suc n → (t < n → smallest (digits n (word / 2)) ≡ Some t) → smallest (eqb d 1 ∷ digits n (word / 2)) ≡ Some (under d t)
     step zero s h rest = ap further (rest (omega arith))
     step (suc zero) s h rest = refl
@@ -148,6 +154,7 @@ none (suc n) word h = step (word % 2) (omega arith) h (none n (word / 2))
   where
     t : ℕ
     t = trailingZeros n (word / 2)
+
     step : (d : ℕ) → d < 2 → suc n ≤ under d t → (n ≤ t → smallest (digits n (word / 2)) ≡ None) → smallest (eqb d 1 ∷ digits n (word / 2)) ≡ None
     step zero s h rest = ap further (rest (omega arith))
     step (suc d) s h rest = let no-more : ⊥ = omega arith in absurd no-more

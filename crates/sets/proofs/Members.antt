@@ -7,7 +7,7 @@ use native.Mathlib.Omega.{arith}
 use borrow.Author.Tests.{lt-ltb, le-ltb, both-ways, clash}
 use lib.Dec.{ltb}
 use lib.ListN.{length, set}
-use Rattle.std.proofs.shelf.Lists.{length-replicate}
+use Rattle.std.proofs.shelf.Lists.{length-replicate, length-set, getD-set-same, set-set, set-getD}
 use Rattle.std.specs.declared.option.Option.{Option}
 use Rattle.std.specs.declared.option.Option.the-variants.{Some, None}
 use Rattle.sets.specs.Sets.{empty, member, joins, joined, left, smallest, further, size, IsSmallest, IsMember, IsEmpty}
@@ -123,3 +123,17 @@ size-leave (true ∷ xs) zero e = omega arith
 size-leave (false ∷ xs) zero e = absurd (clash e)
 size-leave (true ∷ xs) (suc k) e = omega (arith, size-leave xs k e)
 size-leave (false ∷ xs) (suc k) e = size-leave xs k e
+
+-- an empty set has no members
+pub empty-none : (xs : List Bool) → IsEmpty xs → size xs ≡ 0
+empty-none [] e = refl
+empty-none (true ∷ xs) e = absurd (clash (sym (e 0)))
+empty-none (false ∷ xs) e = empty-none xs (λ k. e (suc k))
+
+-- a member that leaves can join again, and the set is then as it was
+pub rejoin : (xs : List Bool) (k : ℕ) → member xs k ≡ true → (joins (set xs k false) k ≡ true) × (joined (set xs k false) k ≡ xs)
+rejoin xs k present =
+    let within = member-within xs k present in
+    let back : set (set xs k false) k true ≡ xs = set-set xs k false true ∙ ap (set xs k) (sym present) ∙ set-getD xs k false in
+    let h = join-absent (set xs k false) xs k (omega (arith, length-set xs k false)) (getD-set-same xs k false false within) (sym back) in
+    (sym (h .answer), sym (h .after))

@@ -1,3 +1,4 @@
+use borrow.Author.Needs.{needs}
 use native.Mathlib.Omega.{arith}
 use mathlib.Core.Path.{_≡_, refl, sym, ap, _∙_}
 use mathlib.Core.List.{_++_}
@@ -15,7 +16,8 @@ returns-then-output-len c =
     let long : length (textOf text) ≡ text .len = length-take-le (text .len) (text .bytes) (omega arith) in
     record {
       listed = (textOf text, c .listing-text-text .ensures, written-not (textOf text) (c .args .output .now) _ _ (omega arith) refl refl);
-      single = one-listing
+      bound = omega arith;
+      single = one-listing;
     }
 
 pub returns : need.returns
@@ -26,9 +28,12 @@ returns c =
     let out = c .args .output .now in
     let copied : c .copy-from-slice .last .self ≡ textOf text = c .copy-from-slice .ensures .after ∙ ap (λ n. take n (text .bytes)) whole in
     record {
-      listed =
-        (textOf text, c .listing-text-text .ensures,
+      listed = (
+        textOf text,
+        c .listing-text-text .ensures,
         written-fits (textOf text) out _ _ (omega arith) (sym long)
-        (ap (λ bs. bs ++ drop (text .len - 0) out) copied ∙ ap (λ n. textOf text ++ drop n out) (whole ∙ sym long)));
-      single = one-listing
+            (ap (λ bs. bs ++ drop (text .len - 0) out) copied ∙ ap (λ n. textOf text ++ drop n out) (whole ∙ sym long)),
+      );
+      bound = search needs;
+      single = one-listing;
     }

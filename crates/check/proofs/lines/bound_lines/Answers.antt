@@ -11,10 +11,11 @@ pub loop-place-again : need.loop-place-again
 loop-place-again c =
     let i = c .loop-place .place in
     let rows = rowsOf (c .args .plan .now) in
-    let bounds = boundsOf (c .args .plan .now) in
-    (c .push-place .ensures .bytes
-    ∙ ap (λ t. t ++ lineAt i (c .row .result) (c .bounds .result)) (c .loop-place .inv .0)
-    ∙ ap (λ r. linesTo i rows bounds ++ lineAt i r (c .bounds .result)) (c .row .ensures)
-    ∙ ap (λ b. linesTo i rows bounds ++ lineAt i (nth rows i) b) (c .bounds .ensures)
-    ∙ ap (λ n. linesTo n rows bounds) (sym (add-one i)),
-    omega (arith, c .push-place .ensures .len, c .loop-place .inv .1))
+    let bounds = boundsOf (c .args .plan .now) in (
+      c .push-place .ensures .bytes
+          ∙ ap (λ t. t ++ lineAt i (c .row .result) (c .bounds .result)) (c .loop-place .inv .0)
+          ∙ ap (λ r. linesTo i rows bounds ++ lineAt i r (c .bounds .result)) (c .row .ensures)
+          ∙ ap (λ b. linesTo i rows bounds ++ lineAt i (nth rows i) b) (c .bounds .ensures)
+          ∙ ap (λ n. linesTo n rows bounds) (sym (add-one i)),
+      omega (arith, c .push-place .ensures .len, c .loop-place .inv .1),
+    )

@@ -11,19 +11,43 @@ push-field-requires c κs =
 
 pub push-word-requires : need.push-word-requires
 push-word-requires c κs =
-    omega (arith, c .new-text .ensures .len, c .push-all .ensures .len, wide-number (c .from .result) (c .from .ok),
-    c .push-field .ensures .len, ap length (c .word .ensures), short-word (c .args .fault .layer))
+    omega (
+      arith,
+      c .new-text .ensures .len,
+      c .push-all .ensures .len,
+      wide-number (c .from .result) (c .from .ok),
+      c .push-field .ensures .len,
+      ap length (c .word .ensures),
+      short-word (c .args .fault .layer),
+    )
 
 pub push-field-requires-2 : need.push-field-requires-2
 push-field-requires-2 c κs =
     let place : c .args .fault .place < 2 ^ 64 = omega arith in
-    omega (arith, c .new-text .ensures .len, c .push-all .ensures .len, wide-number (c .from .result) (c .from .ok),
-    c .push-field .ensures .len, ap length (c .word .ensures), short-word (c .args .fault .layer),
-    c .push-word .ensures .len, wide-number (c .args .fault .place) place)
+    omega (
+      arith,
+      c .new-text .ensures .len,
+      c .push-all .ensures .len,
+      wide-number (c .from .result) (c .from .ok),
+      c .push-field .ensures .len,
+      ap length (c .word .ensures),
+      short-word (c .args .fault .layer),
+      c .push-word .ensures .len,
+      wide-number (c .args .fault .place) place,
+    )
 
 pub push-requires : need.push-requires
 push-requires c κs =
     let place : c .args .fault .place < 2 ^ 64 = omega arith in
-    omega (arith, c .new-text .ensures .len, c .push-all .ensures .len, wide-number (c .from .result) (c .from .ok),
-    c .push-field .ensures .len, ap length (c .word .ensures), short-word (c .args .fault .layer),
-    c .push-word .ensures .len, wide-number (c .args .fault .place) place, c .push-field-2 .ensures .len)
+    omega (
+      arith,
+      c .new-text .ensures .len,
+      c .push-all .ensures .len,
+      wide-number (c .from .result) (c .from .ok),
+      c .push-field .ensures .len,
+      ap length (c .word .ensures),
+      short-word (c .args .fault .layer),
+      c .push-word .ensures .len,
+      wide-number (c .args .fault .place) place,
+      c .push-field-2 .ensures .len,
+    )

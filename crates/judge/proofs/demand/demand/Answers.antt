@@ -14,7 +14,7 @@ add-sum g c =
 pub loop-row-again : need.loop-row-again
 loop-row-again g c =
     let more = demand-more (g .S·Share .taken (c .args .share .now)) (c .args .above .now) (c .args .own) (c .args .window)
-                (c .loop-row .row-index) (c .row-item .result) (c .loop-row-test .taken) (c .row-item .is) in
+    (c .loop-row .row-index) (c .row-item .result) (c .loop-row-test .taken) (c .row-item .is) in
     let small = g .S·Share·met .bounded (c .args .share .now) (c .row-item .result) (c .args .window) in
     (omega arith, omega arith)
 

@@ -6,4 +6,4 @@ pub loop-window-again : need.loop-window-again
 loop-window-again g c =
     let share = c .args .share .now in
     λ u h. none-below-demand (g .S·Share .taken share) (g .S·Share·met .rises share) (c .args .above .now) (c .args .own)
-        (c .loop-window .window) (c .loop-window .inv) u (omega arith)
+    (c .loop-window .window) (c .loop-window .inv) u (omega arith)

@@ -10,9 +10,9 @@ use Rattle.judge.proofs.instants.greatest_finish.Needs as need
 pub returns-in-Break-finish : need.returns-in-Break-finish
 returns-in-Break-finish c =
     rw (c .from-residual .ensures) (λ m h greatest.
-        let here = greatest .each (c .loop-instant .instant) (c .loop-instant-test .taken) in
-        let timely = here .2 in
-        c .in-Break-finish .ensures tt (here .1 .0) (omega (arith, here .1 .2, c .at-from .ensures)) (here .1 .1))
+    let here = greatest .each (c .loop-instant .instant) (c .loop-instant-test .taken) in
+    let timely = here .2 in
+    c .in-Break-finish .ensures tt (here .1 .0) (omega (arith, here .1 .2, c .at-from .ensures)) (here .1 .1))
 
 pub loop-instant-again : need.loop-instant-again
 loop-instant-again c =

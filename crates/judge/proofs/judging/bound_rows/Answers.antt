@@ -11,16 +11,17 @@ returns-in-Break-bounds c =
     let p = err-from-errBy (c .from-residual .result) (c .from-residual .ensures .1) in
     rw (p .1, p .2)
     (fails-first (c .args .rows .now) (c .loop-place .bounds) (c .loop-place .place) (c .index-rows-place .result) _ (c .loop-place-test .taken) (c .index-rows-place .is)
-        (c .loop-place .inv .1) (rw sub-zero at (c .in-Break-bounds .ensures tt)))
+    (c .loop-place .inv .1) (rw sub-zero at (c .in-Break-bounds .ensures tt)))
 
 pub loop-place-again : need.loop-place-again
 loop-place-again c =
     let far = c .loop-place .inv in
     let within = c .loop-place-test .taken in
-    let new = c .in-Continue-bounds .field-0 in
-    (length-set (c .loop-place .bounds) (c .loop-place .place) new ∙ far .0,
-     pass-more (c .args .rows .now) (c .loop-place .bounds) (c .loop-place .place) (c .index-rows-place .result) new within (omega arith) (c .index-rows-place .is)
-        (far .1) (rw sub-zero at (c .in-Continue-bounds .ensures tt)))
+    let new = c .in-Continue-bounds .field-0 in (
+      length-set (c .loop-place .bounds) (c .loop-place .place) new ∙ far .0,
+      pass-more (c .args .rows .now) (c .loop-place .bounds) (c .loop-place .place) (c .index-rows-place .result) new within (omega arith) (c .index-rows-place .is)
+          (far .1) (rw sub-zero at (c .in-Continue-bounds .ensures tt)),
+    )
 
 pub returns : need.returns
 returns c =

@@ -27,11 +27,8 @@ ghost-plan c =
     let many = length-take-le (length given) (c .in-Continue-rows .rows) (omega arith) in
     (made .0, (bound .0, (omega arith, (∣ rw (sub-zero (length given), many) at (bound .1) ∣₁, tt))))
 
-pub returns-then-count-gt32 : need.returns-then-count-gt32
-returns-then-count-gt32 c = record { answer = search needs; determined = determined }
-
-pub returns-then-count-eq0 : need.returns-then-count-eq0
-returns-then-count-eq0 c = record { answer = search needs; determined = determined }
+pub returns-in-Break-check-count : need.returns-in-Break-check-count
+returns-in-Break-check-count c = record { answer = search needs; determined = determined }
 
 pub returns-in-Break-rows : need.returns-in-Break-rows
 returns-in-Break-rows c = record { answer = search needs; determined = determined }

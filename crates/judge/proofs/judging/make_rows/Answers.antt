@@ -13,9 +13,10 @@ returns-in-rest c = (refl, not-all-keep (c .args .given .now) (c .loop-place .pl
 pub loop-place-again : need.loop-place-again
 loop-place-again c =
     let far = c .loop-place .inv in
-    let within = c .loop-place-test .taken in
-    (length-set (c .loop-place .rows) (c .loop-place .place) (c .in-Ok .row) ∙ far .0,
-     made-more numbersOf (c .loop-place .rows) (c .args .given .now) (c .loop-place .place) (c .in-Ok .row) _ (omega arith) within (far .1) (c .in-Ok .ensures tt .1))
+    let within = c .loop-place-test .taken in (
+      length-set (c .loop-place .rows) (c .loop-place .place) (c .in-Ok .row) ∙ far .0,
+      made-more numbersOf (c .loop-place .rows) (c .args .given .now) (c .loop-place .place) (c .in-Ok .row) _ (omega arith) within (far .1) (c .in-Ok .ensures tt .1),
+    )
 
 pub returns : need.returns
 returns c =

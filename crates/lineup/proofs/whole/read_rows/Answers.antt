@@ -15,9 +15,11 @@ use Rattle.lineup.proofs.Collecting.{Collecting, collect-none, collect-more, c
 use Rattle.lineup.proofs.whole.read_rows.Needs as need
 
 pub loop-seen-holds : need.loop-seen-holds
-loop-seen-holds c =
-    (c .new-reader .ensures .input, c .new-rows .ensures .count ∙ sym (ap (λ p. p .rows) (c .new-reader .ensures .place)),
-    subst₂ (λ p rows. Collecting (c .args .input .now) p rows) (sym (c .new-reader .ensures .place)) (sym (c .new-rows .ensures .rows)) (collect-none (c .args .input .now)))
+loop-seen-holds c = (
+  c .new-reader .ensures .input,
+  c .new-rows .ensures .count ∙ sym (ap (λ p. p .rows) (c .new-reader .ensures .place)),
+  subst₂ (λ p rows. Collecting (c .args .input .now) p rows) (sym (c .new-reader .ensures .place)) (sym (c .new-rows .ensures .rows)) (collect-none (c .args .input .now)),
+)
 
 pub returns-in-Break-seen : need.returns-in-Break-seen
 returns-in-Break-seen c =
@@ -34,13 +36,15 @@ loop-seen-again c =
     let item = itemOf (c .in-Some .seen) in
     let is : answerOf (Ok (c .in-Continue-seen .field-0)) ≡ Ok (Some item) = ap (λ o. answerOf (Ok o)) (c .in-Some .is) in
     let answer : Ok (Some item) ≡ readAt input place =
-        sym is ∙ c .in-Continue-seen .ensures tt .answer ∙ ap (λ bs. readAt bs place) (c .loop-seen .inv .0) in
+    sym is ∙ c .in-Continue-seen .ensures tt .answer ∙ ap (λ bs. readAt bs place) (c .loop-seen .inv .0) in
     let after : placeOf (c .next .last .self) ≡ behind place item = c .in-Continue-seen .ensures tt .place ∙ ap (placeAfter place) is in
     let same : inputOf (c .next .last .self) ≡ input = c .next .ensures .input ∙ c .loop-seen .inv .0 in
-    let within : place .at + sizeOf item ≤ length input = omega (arith, ap (λ p. p .at) after, ap length same, c .next .last .self .within) in
-    (same, omega (arith, c .note .ensures .count, c .loop-seen .inv .1, ap (λ p. p .rows) after),
-    subst₂ (λ p rows. Collecting input p rows) (sym after) (sym (c .note .ensures .rows))
-    (collect-more input place (rowsOf (c .loop-seen .rows)) (c .loop-seen .inv .2) item answer within))
+    let within : place .at + sizeOf item ≤ length input = omega (arith, ap (λ p. p .at) after, ap length same, c .next .last .self .within) in (
+      same,
+      omega (arith, c .note .ensures .count, c .loop-seen .inv .1, ap (λ p. p .rows) after),
+      subst₂ (λ p rows. Collecting input p rows) (sym after) (sym (c .note .ensures .rows))
+          (collect-more input place (rowsOf (c .loop-seen .rows)) (c .loop-seen .inv .2) item answer within),
+    )
 
 pub returns : need.returns
 returns c =

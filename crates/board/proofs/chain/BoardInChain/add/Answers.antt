@@ -11,8 +11,8 @@ returns-then-row-ge-ROWS c =
     let board = c .args .self .now in
     let rows = onChain (board .links) in
     elim (c .then-row-ge-ROWS .came) [
-      then-row-ge-ROWS·by·then-row-ge-ROWS w ↦ join-past rows (c .args .row) (omega (arith, length-rows board))
-    | then-row-ge-ROWS·by·else-row-ge-ROWS·then-holds w ↦ join-present rows (c .args .row) (sym (w .if-holds .ensures tt))
+      | then-row-ge-ROWS·by·then-row-ge-ROWS w ↦ join-past rows (c .args .row) (omega (arith, length-rows board))
+      | then-row-ge-ROWS·by·else-row-ge-ROWS·then-holds w ↦ join-present rows (c .args .row) (sym (w .if-holds .ensures tt))
     ]
 
 pub last-below-place-requires : need.last-below-place-requires

@@ -10,8 +10,8 @@ pub returns-then-row-ge-ROWS : need.returns-then-row-ge-ROWS
 returns-then-row-ge-ROWS c =
     let word = c .args .self .now .word in
     elim (c .then-row-ge-ROWS .came) [
-      then-row-ge-ROWS·by·then-row-ge-ROWS w ↦ join-past (digits 32 word) (c .args .row) (omega (arith, length-digits 32 word))
-    | then-row-ge-ROWS·by·else-row-ge-ROWS·then-holds w ↦ join-present (digits 32 word) (c .args .row) (sym (w .if-holds .ensures tt))
+      | then-row-ge-ROWS·by·then-row-ge-ROWS w ↦ join-past (digits 32 word) (c .args .row) (omega (arith, length-digits 32 word))
+      | then-row-ge-ROWS·by·else-row-ge-ROWS·then-holds w ↦ join-present (digits 32 word) (c .args .row) (sym (w .if-holds .ensures tt))
     ]
 
 pub returns : need.returns

@@ -21,7 +21,7 @@ pub returns-then-n-lt10 : need.returns-then-n-lt10
 returns-then-n-lt10 t c =
     record {
       bytes = c .push .ensures .bytes ∙ ap (λ x. textOf (c .args .self .now) ++ x) (sym (decimal-digit (c .args .n) (omega arith)));
-      len = omega (arith, c .push .ensures .len, ap length (decimal-digit (c .args .n) (omega arith)))
+      len = omega (arith, c .push .ensures .len, ap length (decimal-digit (c .args .n) (omega arith)));
     }
 
 pub push-number-requires : need.push-number-requires
@@ -35,7 +35,7 @@ returns t c =
     let n = c .args .n in
     record {
       bytes =
-        appended (textOf (c .args .self .now)) (decimal (n / 10)) ((48 + n % 10) ∷ []) (c .push-2 .ensures .bytes) (c .push-number .ensures .bytes)
-        (sym (decimal-step n (omega arith) (omega arith)));
-      len = omega (arith, longer n (omega arith) (omega arith), c .push-number .ensures .len, c .push-2 .ensures .len)
+          appended (textOf (c .args .self .now)) (decimal (n / 10)) ((48 + n % 10) ∷ []) (c .push-2 .ensures .bytes) (c .push-number .ensures .bytes)
+          (sym (decimal-step n (omega arith) (omega arith)));
+      len = omega (arith, longer n (omega arith) (omega arith), c .push-number .ensures .len, c .push-2 .ensures .len);
     }

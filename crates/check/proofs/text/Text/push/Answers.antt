@@ -7,5 +7,5 @@ pub returns : need.returns
 returns c =
     record {
       bytes = take-more-set (c .args .self .now .bytes) (c .args .self .now .len) (c .args .byte) (omega arith);
-      len = refl
+      len = refl;
     }

@@ -14,5 +14,5 @@ pub returns : need.returns
 returns c =
     record {
       bytes = c .push-field .ensures .bytes ∙ ap (λ n. textOf (c .args .self .now) ++ spaced (decimal n)) (c .from .ensures);
-      len = omega (arith, c .push-field .ensures .len, narrow-number (c .from .result) (omega arith))
+      len = omega (arith, c .push-field .ensures .len, narrow-number (c .from .result) (omega arith));
     }

@@ -10,5 +10,5 @@ pub returns : need.returns
 returns c =
     record {
       bytes = appended (textOf (c .args .self .now)) (0x20 ∷ []) (decimal (c .args .n)) (c .push-number .ensures .bytes) (c .push .ensures .bytes) refl;
-      len = omega (arith, c .push .ensures .len, c .push-number .ensures .len)
+      len = omega (arith, c .push .ensures .len, c .push-number .ensures .len);
     }

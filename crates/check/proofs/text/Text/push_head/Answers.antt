@@ -15,16 +15,27 @@ push-number-requires c κs = omega (arith, narrow-number (c .from .result) (omeg
 
 pub push-word-requires : need.push-word-requires
 push-word-requires c κs =
-    omega (arith, c .push-number .ensures .len, narrow-number (c .from .result) (omega arith),
-    ap length (c .letter .ensures), short-letter (c .args .row .now))
+    omega (
+      arith,
+      c .push-number .ensures .len,
+      narrow-number (c .from .result) (omega arith),
+      ap length (c .letter .ensures),
+      short-letter (c .args .row .now),
+    )
 
 pub returns : need.returns
 returns c =
     record {
       bytes =
-        appended (textOf (c .args .self .now)) (decimal (c .from .result)) (spaced (c .letter .result .now)) (c .push-word .ensures .bytes) (c .push-number .ensures .bytes)
-        (ap (λ n. decimal n ++ spaced (c .letter .result .now)) (c .from .ensures) ∙ ap (λ l. decimal (c .args .place) ++ spaced l) (c .letter .ensures));
+          appended (textOf (c .args .self .now)) (decimal (c .from .result)) (spaced (c .letter .result .now)) (c .push-word .ensures .bytes) (c .push-number .ensures .bytes)
+          (ap (λ n. decimal n ++ spaced (c .letter .result .now)) (c .from .ensures) ∙ ap (λ l. decimal (c .args .place) ++ spaced l) (c .letter .ensures));
       len =
-        omega (arith, c .push-number .ensures .len, c .push-word .ensures .len, narrow-number (c .from .result) (omega arith),
-        ap length (c .letter .ensures), short-letter (c .args .row .now))
+          omega (
+            arith,
+            c .push-number .ensures .len,
+            c .push-word .ensures .len,
+            narrow-number (c .from .result) (omega arith),
+            ap length (c .letter .ensures),
+            short-letter (c .args .row .now),
+          );
     }

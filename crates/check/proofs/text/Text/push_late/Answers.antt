@@ -13,7 +13,7 @@ returns-in-Some c =
     let bounds = c .in-Some .bounds in
     record {
       bytes =
-        appended before (spaced (decimal (bounds .mixed))) (spaced (decimal (bounds .long))) (c .push-bound-in-Some .ensures .bytes) (c .push-bound .ensures .bytes) refl
-        ∙ ap (λ l. before ++ lateFields l) (sym (c .in-Some .is));
-      len = omega (arith, c .push-bound .ensures .len, c .push-bound-in-Some .ensures .len)
+          appended before (spaced (decimal (bounds .mixed))) (spaced (decimal (bounds .long))) (c .push-bound-in-Some .ensures .bytes) (c .push-bound .ensures .bytes) refl
+          ∙ ap (λ l. before ++ lateFields l) (sym (c .in-Some .is));
+      len = omega (arith, c .push-bound .ensures .len, c .push-bound-in-Some .ensures .len);
     }

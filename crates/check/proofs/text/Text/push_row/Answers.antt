@@ -17,5 +17,5 @@ returns c =
     let four = appended before (head ++ normal) late (c .push-late .ensures .bytes) three refl in
     record {
       bytes = appended before (head ++ normal ++ late) lineEnd (c .push .ensures .bytes) four refl;
-      len = omega (arith, c .push-head .ensures .len, c .push-bound .ensures .len, c .push-late .ensures .len, c .push .ensures .len)
+      len = omega (arith, c .push-head .ensures .len, c .push-bound .ensures .len, c .push-late .ensures .len, c .push .ensures .len);
     }

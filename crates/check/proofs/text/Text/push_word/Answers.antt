@@ -9,5 +9,5 @@ pub returns : need.returns
 returns c =
     record {
       bytes = appended (textOf (c .args .self .now)) (0x20 ∷ []) (c .args .word .now) (c .push-all .ensures .bytes) (c .push .ensures .bytes) refl;
-      len = omega (arith, c .push .ensures .len, c .push-all .ensures .len)
+      len = omega (arith, c .push .ensures .len, c .push-all .ensures .len);
     }

@@ -9,7 +9,7 @@ returns-in-Err c =
     record {
       answer = read-from-rest (c .args .self .now .input .now) (placeOf (c .args .self .now)) _ (c .if-self .left) (c .in-Err .ensures tt .answer);
       place = refl;
-      input = refl
+      input = refl;
     }
 
 pub returns-in-Ok : need.returns-in-Ok
@@ -17,5 +17,5 @@ returns-in-Ok c =
     record {
       answer = read-from-rest (c .args .self .now .input .now) (placeOf (c .args .self .now)) _ (c .if-self .left) (c .in-Ok .ensures tt .answer);
       place = search needs;
-      input = search needs
+      input = search needs;
     }

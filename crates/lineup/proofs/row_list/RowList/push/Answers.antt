@@ -7,5 +7,5 @@ pub returns : need.returns
 returns c =
     record {
       rows = take-more-set (c .args .self .now .numbers) (c .args .self .now .count) (c .args .numbers) (omega arith);
-      count = refl
+      count = refl;
     }

@@ -11,8 +11,8 @@ returns-then-block-self c =
     let pool = c .args .self .now in
     let free = digits (pool .blocks) (pool .word) in
     elim (c .then-block-self .came) [
-      then-block-self·by·then-block-self w ↦ join-past free (c .args .block) (omega (arith, length-digits (pool .blocks) (pool .word)))
-    | then-block-self·by·else-block-self·then-is-free w ↦ join-present free (c .args .block) (sym (w .if-is-free .ensures tt))
+      | then-block-self·by·then-block-self w ↦ join-past free (c .args .block) (omega (arith, length-digits (pool .blocks) (pool .word)))
+      | then-block-self·by·else-block-self·then-is-free w ↦ join-present free (c .args .block) (sym (w .if-is-free .ensures tt))
     ]
 
 pub ghost-self : need.ghost-self

@@ -20,11 +20,10 @@ pub loop-block-again : need.loop-block-again
 loop-block-again c =
     let block = c .loop-block .block in
     let blocks = c .loop-block .self .blocks in
-    let same = c .link .ensures .same in
-    (
+    let same = c .link .ensures .same in (
       same ∙ c .loop-block .inv .0,
       c .link .ensures .after ∙ ap (λ free. set free block true) (c .loop-block .inv .1) ∙ first-more blocks block (omega arith)
-      ∙ ap (λ n. firstOf n (block + 1)) (sym same),
+          ∙ ap (λ n. firstOf n (block + 1)) (sym same),
     )
 
 pub returns : need.returns

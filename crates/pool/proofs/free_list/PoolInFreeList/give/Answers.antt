@@ -11,8 +11,8 @@ returns-then-block-self c =
     let pool = c .args .self .now in
     let free = freeIn (pool .blocks) (pool .links) in
     elim (c .then-block-self .came) [
-      then-block-self·by·then-block-self w ↦ join-past free (c .args .block) (omega (arith, length-free pool))
-    | then-block-self·by·else-block-self·then-is-free w ↦ join-present free (c .args .block) (sym (w .if-is-free .ensures tt))
+      | then-block-self·by·then-block-self w ↦ join-past free (c .args .block) (omega (arith, length-free pool))
+      | then-block-self·by·else-block-self·then-is-free w ↦ join-present free (c .args .block) (sym (w .if-is-free .ensures tt))
     ]
 
 pub returns : need.returns
