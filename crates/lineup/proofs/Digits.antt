@@ -6,8 +6,9 @@ use native.Mathlib.Omega.{arith}
 use native.Mathlib.Nat.{add-assoc, add-suc, add-zero, mul-assoc, add-mul, mul-one, pow-suc}
 use native.Mathlib.Numerals.{add-one}
 use lib.Dec.{lit≤}
-use lib.ListN.{length, getD, take, drop}
-use Rattle.std.proofs.shelf.Lists.{getD-take, getD-drop, length-take, length-drop}
+use mathlib.Core.Logic.{_≢_}
+use lib.ListN.{length, getD, set, take, drop}
+use Rattle.std.proofs.shelf.Lists.{getD-take, getD-drop, getD-set-same, getD-set-other, length-take, length-drop}
 use Rattle.std.proofs.shelf.Bits.{pow-add, pow-pos, shr-high, mod-low, mod-pow-add, shr-shr}
 use Rattle.lineup.specs.Fields.{bitAt, valueOf, field}
 
@@ -92,16 +93,51 @@ field-cut bs o lead w tail =
     value-cut (λ i. bitAt bs (o + i)) (λ i. bit-below bs (o + i)) lead w tail
     ∙ value-same _ _ w (λ i h. ap (bitAt bs) (sym (add-assoc o lead i)))
 
--- a field of a part of a list is the field of the list at that part
+-- a bit of a part of a list is the list's bit at that part
+pub bit-part : (bs : List ℕ) (a n j : ℕ) → j < 8 * n → bitAt (take n (drop a bs)) j ≡ bitAt bs (8 * a + j)
+bit-part bs a n j h =
+    let inside : j / 8 < n = omega arith in
+    let byte : (8 * a + j) / 8 ≡ a + j / 8 = omega arith in
+    let bit : (8 * a + j) % 8 ≡ j % 8 = omega arith in
+    rw (byte, bit, getD-take, getD-drop) refl
+
+-- and so with a field
 pub field-part : (bs : List ℕ) (a n o w : ℕ) → o + w ≤ 8 * n → field (take n (drop a bs)) o w ≡ field bs (8 * a + o) w
-field-part bs a n o w h = value-same (λ i. bitAt (take n (drop a bs)) (o + i)) (λ i. bitAt bs (8 * a + o + i)) w each
+field-part bs a n o w h =
+    value-same (λ i. bitAt (take n (drop a bs)) (o + i)) (λ i. bitAt bs (8 * a + o + i)) w
+    (λ i l. bit-part bs a n (o + i) (omega arith) ∙ ap (bitAt bs) (sym (add-assoc (8 * a) o i)))
+
+-- each bit of a field is a digit of its number
+pub bit-of-field : (bs : List ℕ) (o w i : ℕ) → i < w → bitAt bs (o + i) ≡ field bs o w / 2 ^ (w - suc i) % 2
+unfolding valueOf
+bit-of-field bs o w i h =
+    let all : w ≡ (i + 1) + (w - suc i) = omega arith in
+    let cut = value-cut (λ k. bitAt bs (o + k)) (λ k. bit-below bs (o + k)) i 1 (w - suc i) in
+    sym (ap (λ n. field bs o n / 2 ^ (w - suc i) % 2) all ∙ cut ∙ rw (add-zero i) (omega arith))
+
+-- two lists with the same field have the same bits there
+pub same-bits : (cs bs : List ℕ) (o w i : ℕ) → field cs o w ≡ field bs o w → i < w → bitAt cs (o + i) ≡ bitAt bs (o + i)
+same-bits cs bs o w i e h = bit-of-field cs o w i h ∙ ap (λ v. v / 2 ^ (w - suc i) % 2) e ∙ sym (bit-of-field bs o w i h)
+
+-- a write to byte n leaves the bits before it
+pub field-set : (bs : List ℕ) (n b : ℕ) → field (set bs n b) 0 (8 * n) ≡ field bs 0 (8 * n)
+field-set bs n b = value-same (λ i. bitAt (set bs n b) (0 + i)) (λ i. bitAt bs (0 + i)) (8 * n) each
   where
-    each : (i : ℕ) → i < w → bitAt (take n (drop a bs)) (o + i) ≡ bitAt bs (8 * a + o + i)
-    each i l =
-        let inside : (o + i) / 8 < n = omega arith in
-        let byte : (8 * a + o + i) / 8 ≡ a + (o + i) / 8 = omega arith in
-        let bit : (8 * a + o + i) % 8 ≡ (o + i) % 8 = omega arith in
-        rw (byte, bit, getD-take, getD-drop) refl
+    each : (i : ℕ) → i < 8 * n → bitAt (set bs n b) (0 + i) ≡ bitAt bs (0 + i)
+    each i h =
+        let before : (0 + i) / 8 ≢ n = omega arith in
+        rw getD-set-other refl
+
+-- byte n written with the next eight bits of a number of 8 * m bits, of which n bytes are there
+pub field-store : (bs : List ℕ) (v m n b : ℕ) → n < m → n < length bs → b ≡ v / 2 ^ (8 * (m - 1 - n)) % 256
+    → field bs 0 (8 * n) ≡ v / 2 ^ (8 * (m - n)) → field (set bs n b) 0 (8 * (n + 1)) ≡ v / 2 ^ (8 * (m - (n + 1)))
+field-store bs v m n b h l e before =
+    let y : ℕ = v / 2 ^ (8 * (m - 1 - n)) in
+    let here : getD (set bs n b) n 0 ≡ b = getD-set-same bs n b 0 l in
+    let bits : 8 * (m - 1 - n) + 8 ≡ 8 * (m - n) = omega arith in
+    let front : y / 2 ^ 8 ≡ v / 2 ^ (8 * (m - n)) = shr-shr v (8 * (m - 1 - n)) 8 ∙ ap (λ k. v / 2 ^ k) bits in
+    let last : 8 * (m - (n + 1)) ≡ 8 * (m - 1 - n) = omega arith in
+    rw last (omega (arith, field-more (set bs n b) n (omega arith), field-set bs n b))
 
 -- the bytes that hold a field, as one number, with what stands behind and before the field cut off
 pub field-from-bytes : (bs : List ℕ) (o w first past v : ℕ) → first ≡ o / 8 → past ≡ (o + w + 7) / 8 → o + w ≤ 8 * length bs
