@@ -1,13 +1,13 @@
 -- Accepted rows, one after another. Assumes nothing.
-use Prim.Native.Nat.{ℕ, _+_, _-_, _≤_, _<_}
-use mathlib.Core.Path.{_≡_, refl, sym, ap, _∙_, subst}
+use Prim.Native.Nat.{ℕ, _+_, _≤_, _<_}
+use mathlib.Core.Path.{_≡_, refl, sym, subst}
 use mathlib.Core.List.{List, [], _∷_, map}
 use mathlib.Core.Logic.{_≢_, inl, inr}
 use native.Mathlib.Omega.{arith}
 use lib.ListN.{length, take, getD, set}
 use Rattle.std.specs.declared.option.Option.the-variants.{None}
 use Rattle.std.proofs.shelf.Tests.{cases-lt}
-use Rattle.std.proofs.shelf.Lists.{getD-set-same, getD-set-other, getD-read, getD-take, length-take-le, length-map}
+use Rattle.std.proofs.shelf.Lists.{getD-set-same, getD-set-other, getD-read, getD-take, length-take-le}
 use Rattle.row.specs.Rows.{numbersOf}
 use Rattle.row.specs.declared.rows.Row.{Row}
 use Rattle.row.specs.declared.rows.RowNumbers.{RowNumbers}
@@ -26,6 +26,17 @@ none-accepted = record { many = refl; each = λ i below. let b : ⊥ = omega ari
 -- every plan that exists is accepted
 pub plan-accepted : (p : Plan) → ∥ Accepted (rowsOf p) (boundsOf p) ∥₁
 plan-accepted p = p .accepted
+
+-- a plan has at most 32 rows
+pub plan-few : (p : Plan) → length (rowsOf p) ≤ 32
+plan-few p = let many = length-take-le (p .count) (p .rows) (omega (arith, p .places, p .few)) in omega (arith, p .few)
+
+-- and bounds for each of them
+pub plan-bounds : (p : Plan) → length (boundsOf p) ≡ length (rowsOf p)
+plan-bounds p =
+    let rows = length-take-le (p .count) (p .rows) (omega (arith, p .places, p .few)) in
+    let bounds = length-take-le (p .count) (p .bounds) (omega (arith, p .limits, p .few)) in
+    omega arith
 
 -- the first n rows pass with these bounds
 abbrev pub PassTo : ℕ → List Row → List Bounds → Type 0

@@ -1,13 +1,12 @@
 -- The late bounds of a track from its greatest late finish, found or missed up to its deadline. Assumes nothing.
-use Prim.Native.Nat.{ℕ, _-_, _≤_, _<_, max}
-use mathlib.Core.Path.{_≡_, refl, sym, subst}
+use Prim.Native.Nat.{ℕ, max}
+use mathlib.Core.Path.{_≡_, refl, subst}
 use mathlib.Core.List.{List}
 use native.Mathlib.Omega.{arith}
-use Rattle.std.specs.Options.{Cases}
 use Rattle.std.specs.declared.option.Option.{Option}
 use Rattle.std.specs.declared.option.Option.the-variants.{Some, None}
 use Rattle.row.specs.declared.rows.Row.{Row}
-use Rattle.judge.specs.Bounds.{Least, NoneUpTo, Greatest, NormalBound, LateFinish, LatestStart, MixedBound, LongBound}
+use Rattle.judge.specs.Bounds.{NoneUpTo, FoundUpTo, Greatest, NormalBound, LateFinish, LatestStart, MixedBound, LongBound}
 use Rattle.judge.specs.Instants.{FinishFrom}
 use Rattle.judge.specs.declared.instants.Origin.the-variants.{Window, Instant}
 use Rattle.judge.proofs.Uniques.{least-single}
@@ -43,8 +42,7 @@ module _ (above : List Row) where
       none (mixed .late) (omega (arith, mixed .greater)) (subst (λ n. Greatest n Value (mixed .late)) same g)
 
   pub long-judged : (L S D : ℕ) → LatestStart above S → (o : Option ℕ) →
-      Cases o (NoneUpTo D (Greatest (max 1 S) (FinishFrom Instant above L))) (λ m. Greatest (max 1 S) (FinishFrom Instant above L) m × (m ≤ D)) →
-      Cases o (NoneUpTo D (LongBound above L)) (λ m. LongBound above L m × (m ≤ D))
+      FoundUpTo D (Greatest (max 1 S) (FinishFrom Instant above L)) o → FoundUpTo D (LongBound above L) o
   long-judged L S D start None none = λ m h long.
       let same = least-single _ (long .start) S (long .isStart) start in
       none m h (subst (λ n. Greatest (max 1 n) (FinishFrom Instant above L) m) same (long .greatest))

@@ -1,8 +1,8 @@
 -- The judge's answer is determined. Assumes nothing.
 use Prim.Native.Nat.{ℕ, _≤_, _<_}
 use mathlib.Core.Path.{_≡_, refl, sym, ap, _∙_, subst}
-use mathlib.Core.Bool.{Bool, true, false, cond}
-use mathlib.Core.List.{List, [], _∷_, map}
+use mathlib.Core.Bool.{true, cond}
+use mathlib.Core.List.{List, map}
 use mathlib.Core.Logic.{_⊎_, inl, inr}
 use native.Mathlib.Omega.{arith}
 use lib.Dec.{ltb, eqb}
@@ -15,8 +15,7 @@ use Rattle.row.specs.Rows.{numbersOf, isTrack}
 use Rattle.row.specs.declared.rows.Row.{Row}
 use Rattle.row.specs.declared.rows.Row.the-variants.{Track, Helper}
 use Rattle.row.specs.declared.rows.RowNumbers.{RowNumbers}
-use Rattle.judge.specs.Bounds.{NormalBound, LateFinish, LatestStart, MixedBound, LongBound}
-use Rattle.judge.specs.Accepted.{LatePasses, Passes, Accepted, NormalInTime, MixedInTime, LongInTime, FailsNormal, FailsMixed, FailsLong}
+use Rattle.judge.specs.Accepted.{LatePasses, Passes, Accepted, MixedInTime, LongInTime, FailsNormal, FailsMixed, FailsLong}
 use Rattle.judge.specs.Judged.{allKeep, FailsBy, FailsFirst, FirstFailure, Refused}
 use Rattle.judge.specs.Plan.{rowsOf, boundsOf, Filled}
 use Rattle.judge.specs.Determined.{AtMostOne, Determined}

@@ -1,5 +1,5 @@
 -- Quotients rounded up and down: they rise, and jobs times budget stay near the window. Assumes nothing.
-use Prim.Native.Nat.{ℕ, _+_, _-_, _*_, _/_, _≤_, _<_}
+use Prim.Native.Nat.{ℕ, _+_, _-_, _*_, _≤_, _<_}
 use native.Mathlib.Nat.{le-trans, mul-le-mul, le-refl, le-div-iff-mul-le, div-mul-le-self, add-div-right}
 use native.Mathlib.Omega.{arith}
 use Rattle.judge.specs.Demand.{up, down}

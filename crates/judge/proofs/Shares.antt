@@ -6,7 +6,7 @@ use Rattle.row.specs.Rows.{periodOf, shortOf}
 use Rattle.row.specs.declared.rows.Row.{Row}
 use Rattle.row.specs.declared.rows.Row.the-variants.{Track, Helper}
 use Rattle.row.proofs.Limits.{limits}
-use Rattle.judge.specs.Demand.{up, down, normalShare, lateShare, startShare}
+use Rattle.judge.specs.Demand.{normalShare, lateShare, startShare}
 use Rattle.judge.proofs.Quotients.{up-rises, down-rises, up-small, down-small, down-up}
 
 pub normal-rises : (r : Row) (t u : ℕ) → t ≤ u → normalShare t r ≤ normalShare u r

@@ -1,13 +1,13 @@
 -- Each bound has at most one value. Assumes nothing.
-use Prim.Native.Nat.{ℕ, _-_, _≤_, _<_, max}
-use mathlib.Core.Path.{_≡_, sym, ap, _∙_, subst}
+use Prim.Native.Nat.{ℕ, _-_, _≤_, max}
+use mathlib.Core.Path.{_≡_, subst}
 use mathlib.Core.List.{List}
 use mathlib.Core.Logic.{inl, inr}
 use native.Mathlib.Omega.{arith}
 use Rattle.std.proofs.shelf.Tests.{cases-lt}
 use Rattle.row.specs.declared.rows.Row.{Row}
 use Rattle.judge.specs.Determined.{AtMostOne}
-use Rattle.judge.specs.Bounds.{Least, Greatest, NormalBound, LateFinish, LatestStart, MixedBound, LongBound}
+use Rattle.judge.specs.Bounds.{Least, Greatest, LateFinish, MixedBound, LongBound}
 
 pub least-single : (P : ℕ → Type 0) → AtMostOne (Least P)
 least-single P t u p q =

@@ -3,6 +3,8 @@
 use Prim.Native.Nat.{ℕ, _-_, _≤_, _<_, max}
 use mathlib.Core.Path.{_≡_}
 use mathlib.Core.List.{List}
+use Rattle.std.specs.Options.{Cases}
+use Rattle.std.specs.declared.option.Option.{Option}
 use Rattle.row.specs.declared.rows.Row.{Row}
 use Rattle.judge.specs.Demand.{demandBy, normalDemand, lateDemand, startDemand}
 
@@ -14,6 +16,14 @@ pub record Least (P : ℕ → Type 0) (t : ℕ) : Type 0 where
 -- no number up to n has P
 abbrev pub NoneUpTo : ℕ → (ℕ → Type 0) → Type 0
 NoneUpTo n P = (t : ℕ) → t ≤ n → P t → ⊥
+
+-- what a search up to n answers: the number with P, if it is at most n, or none
+abbrev pub FoundUpTo : ℕ → (ℕ → Type 0) → Option ℕ → Type 0
+FoundUpTo n P o = Cases o (NoneUpTo n P) (λ t. P t × (t ≤ n))
+
+-- what a search for the least number with P up to n answers
+abbrev pub LeastUpTo : ℕ → (ℕ → Type 0) → Option ℕ → Type 0
+LeastUpTo n P o = Cases o (NoneUpTo n P) (λ t. Least P t × (t ≤ n))
 
 -- each s below n has a value, and m is the greatest of them
 pub record Greatest (n : ℕ) (Value : ℕ → ℕ → Type 0) (m : ℕ) : Type 0 where

@@ -1,8 +1,8 @@
 -- How much processor time the rows above a row may ask for. Assumes nothing.
-use Prim.Native.Nat.{ℕ, suc, _+_, _-_, _*_, _/_}
+use Prim.Native.Nat.{ℕ, _+_, _-_, _*_, _/_}
 use mathlib.Core.List.{List}
 use Rattle.std.specs.shelf.Lists.{sumBy}
-use Rattle.row.specs.Rows.{periodOf, shortOf, longOf}
+use Rattle.row.specs.Rows.{periodOf, shortOf}
 use Rattle.row.specs.declared.rows.Row.{Row}
 use Rattle.row.specs.declared.rows.Row.the-variants.{Track, Helper}
 

@@ -10,7 +10,7 @@ use Rattle.row.specs.declared.faults.Layer.the-variants.{Judge}
 use Rattle.row.specs.declared.faults.Refusal.the-variants as refusals
 use Rattle.row.specs.declared.rows.Row.{Row}
 use Rattle.row.specs.declared.rows.RowNumbers.{RowNumbers}
-use Rattle.judge.specs.Accepted.{Passes, FailsNormal, FailsMixed, FailsLong}
+use Rattle.judge.specs.Accepted.{Passes, Accepted, FailsNormal, FailsMixed, FailsLong}
 use Rattle.judge.specs.declared.bounds.Bounds.{Bounds}
 use Rattle.judge.specs.declared.bounds.JudgeFault.{JudgeFault}
 use Rattle.judge.specs.declared.bounds.JudgeFault.the-variants.{TooManyRows, NoRows, OutsideLimits, NormalBound, MixedBound, LongBound}
@@ -28,6 +28,18 @@ faultOf (LongBound i) = record { refusal = refusals.LongBound; layer = Judge; pl
 abbrev pub allKeep : List RowNumbers → Bool
 allKeep [] = true
 allKeep (n ∷ given) = keeps n && allKeep given
+
+-- the first rows of an array are made of the numbers given
+abbrev pub RowsMade : List RowNumbers → List Row → Type 0
+RowsMade given rows = (length rows ≡ 32) × (map numbersOf (take (length given) rows) ≡ given)
+
+-- some of the numbers given make no row
+abbrev pub NoRowsMade : List RowNumbers → JudgeFault → Type 0
+NoRowsMade given f = (f ≡ OutsideLimits) × (allKeep given ≡ false)
+
+-- every row passes, with the first bounds of an array
+abbrev pub BoundsMade : List Row → List Bounds → Type 0
+BoundsMade rows bounds = (length bounds ≡ 32) × Accepted rows (take (length rows) bounds)
 
 -- row r, at place i below the rows `above`, fails first by the check that the fault names
 abbrev pub FailsBy : List Row → Row → ℕ → JudgeFault → Type 0

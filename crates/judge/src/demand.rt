@@ -1,9 +1,8 @@
 // Demands: how much processor time a window asks for, and the least window that has room for what it asks.
 ghost use mathlib.Core.Path.{_≡_};
-ghost use Prim.Native.Nat.{ℕ, _≤_, _<_};
+ghost use Prim.Native.Nat.{_≤_};
 ghost use lib.ListN.{length};
-ghost use Rattle.std.specs.Options.{Cases as BySome};
-ghost use Rattle.judge.specs.Bounds.{Least, NoneUpTo, HasRoom};
+ghost use Rattle.judge.specs.Bounds.{LeastUpTo, HasRoom};
 ghost use Rattle.judge.specs.Demand.{demandBy};
 use super::share::Share;
 use row::Row;
@@ -24,7 +23,7 @@ fn demand<S: Share>(share: &S, above: &[Row], own: u32, window: u32) -> u64
 // since demands rise with the window: so the search jumps from demand to demand.
 pub(crate) fn least<S: Share>(share: &S, above: &[Row], own: u32, limit: u32) -> Option<u32>
     requires { ⌜ length (now above) ≤ 32 ⌝ ∗ ⌜ limit ≤ 524286 ⌝ }
-    ensures { λ r. ⌜ BySome r (NoneUpTo limit (HasRoom (taken (now (share .entry))) (now (above .entry)) own)) (λ t. (t ≤ limit) × Least (HasRoom (taken (now (share .entry))) (now (above .entry)) own) t) ⌝ }
+    ensures { λ r. ⌜ LeastUpTo limit (HasRoom (taken (now (share .entry))) (now (above .entry)) own) r ⌝ }
 {
     let mut window = own as u64;
     while window <= limit as u64 {

@@ -1,9 +1,7 @@
 // When a job may end and start below the rows above: least windows with room for their own demand.
-ghost use mathlib.Core.Path.{_≡_};
-ghost use Prim.Native.Nat.{ℕ, _≤_, _<_};
+ghost use Prim.Native.Nat.{_≤_, _<_};
 ghost use lib.ListN.{length};
-ghost use Rattle.std.specs.Options.{Cases as BySome};
-ghost use Rattle.judge.specs.Bounds.{NoneUpTo, NormalBound, LateFinish, LatestStart};
+ghost use Rattle.judge.specs.Bounds.{FoundUpTo, NormalBound, LateFinish, LatestStart};
 use super::demand::least;
 use super::share::Late;
 use super::share::LateShare;
@@ -16,7 +14,7 @@ use row::Row;
 // The normal bound of a row with this short budget, if it exists and is at most the deadline.
 pub(crate) fn normal_bound(above: &[Row], short: u32, deadline: u32) -> Option<u32>
     requires { ⌜ length (now above) ≤ 32 ⌝ ∗ ⌜ 1 ≤ short ⌝ ∗ ⌜ deadline ≤ 262143 ⌝ }
-    ensures { λ r. ⌜ BySome r (NoneUpTo deadline (NormalBound (now (above .entry)) short)) (λ R. NormalBound (now (above .entry)) short R × (R ≤ deadline)) ⌝ }
+    ensures { λ r. ⌜ FoundUpTo deadline (NormalBound (now (above .entry)) short) r ⌝ }
 {
     least(&Normal, above, short, deadline)
 }
@@ -24,7 +22,7 @@ pub(crate) fn normal_bound(above: &[Row], short: u32, deadline: u32) -> Option<u
 // The late finish at a first budget and an instant, if it exists and is at most `limit`.
 pub(crate) fn late_finish(above: &[Row], budget: u32, instant: u32, limit: u32) -> Option<u32>
     requires { ⌜ length (now above) ≤ 32 ⌝ ∗ ⌜ 1 ≤ budget ⌝ ∗ ⌜ instant ≤ 262143 ⌝ ∗ ⌜ limit ≤ 524286 ⌝ }
-    ensures { λ r. ⌜ BySome r (NoneUpTo limit (LateFinish (now (above .entry)) budget instant)) (λ F. LateFinish (now (above .entry)) budget instant F × (F ≤ limit)) ⌝ }
+    ensures { λ r. ⌜ FoundUpTo limit (LateFinish (now (above .entry)) budget instant) r ⌝ }
 {
     least(&Late { instant }, above, budget, limit)
 }

@@ -1,9 +1,8 @@
 // The greatest late finish over the instants at which the mode may turn abnormal.
 ghost use mathlib.Core.Path.{_≡_};
-ghost use Prim.Native.Nat.{ℕ, _≤_, _<_};
+ghost use Prim.Native.Nat.{_≤_};
 ghost use lib.ListN.{length};
-ghost use Rattle.std.specs.Options.{Cases as BySome};
-ghost use Rattle.judge.specs.Bounds.{NoneUpTo, Greatest};
+ghost use Rattle.judge.specs.Bounds.{FoundUpTo, Greatest};
 ghost use Rattle.judge.specs.Instants.{originAt, FinishFrom};
 use super::finish::late_finish;
 use row::Row;
@@ -39,7 +38,7 @@ pub(crate) fn greatest_finish(
     requires some { ⌜ 1 ≤ instants ⌝ }
     requires early { ⌜ instants ≤ 262143 ⌝ }
     requires timely { ⌜ deadline ≤ 262143 ⌝ }
-    ensures { λ r. ⌜ BySome r (NoneUpTo deadline (Greatest instants (FinishFrom origin (now (above .entry)) budget))) (λ m. Greatest instants (FinishFrom origin (now (above .entry)) budget) m × (m ≤ deadline)) ⌝ }
+    ensures { λ r. ⌜ FoundUpTo deadline (Greatest instants (FinishFrom origin (now (above .entry)) budget)) r ⌝ }
 {
     let mut greatest = 0;
     for instant in 0..instants {

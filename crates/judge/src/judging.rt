@@ -1,16 +1,11 @@
 // Judging a list of rows: the plan is filled, or the first check that applies refuses it.
 ghost use mathlib.Core.Path.{_≡_};
-ghost use mathlib.Core.Bool.{false};
-ghost use mathlib.Core.List.{map};
-ghost use Prim.Native.Nat.{ℕ, _≤_, _<_};
-ghost use lib.ListN.{length, take};
+ghost use Prim.Native.Nat.{_≤_};
+ghost use lib.ListN.{length};
 ghost use Rattle.std.specs.Results.{Cases};
-ghost use Rattle.row.specs.Rows.{numbersOf};
-ghost use Rattle.judge.specs.Accepted.{Accepted};
-ghost use Rattle.judge.specs.Judged.{allKeep, FailsFirst, Refused};
+ghost use Rattle.judge.specs.Judged.{RowsMade, NoRowsMade, BoundsMade, FailsFirst, Refused};
 ghost use Rattle.judge.specs.Plan.{Filled};
 ghost use Rattle.judge.specs.Determined.{Determined};
-ghost use Rattle.judge.specs.declared.bounds.JudgeFault.the-variants.{OutsideLimits};
 use super::bounds::Bounds;
 use super::bounds::JudgeFault;
 use super::passing::pass;
@@ -53,7 +48,7 @@ fn check_count(given: &[RowNumbers]) -> Result<(), JudgeFault>
 // The rows of these numbers, from the front of the array on.
 fn make_rows(given: &[RowNumbers]) -> Result<[Row; 32], JudgeFault>
     requires { ⌜ length (now given) ≤ 32 ⌝ }
-    ensures { λ r. ⌜ Cases r (λ rows. (length rows ≡ 32) × (map numbersOf (take (length (now (given .entry))) rows) ≡ now (given .entry))) (λ f. (f ≡ OutsideLimits) × (allKeep (now (given .entry)) ≡ false)) ⌝ }
+    ensures { λ r. ⌜ Cases r (RowsMade (now (given .entry))) (NoRowsMade (now (given .entry))) ⌝ }
 {
     let mut rows = [NO_ROW; 32];
     for (place, numbers) in given.iter().enumerate() {
@@ -68,7 +63,7 @@ fn make_rows(given: &[RowNumbers]) -> Result<[Row; 32], JudgeFault>
 // The bounds of each row, from the front of the array on, or the first row's failure.
 fn bound_rows(rows: &[Row]) -> Result<[Bounds; 32], JudgeFault>
     requires { ⌜ length (now rows) ≤ 32 ⌝ }
-    ensures { λ r. ⌜ Cases r (λ bounds. (length bounds ≡ 32) × Accepted (now (rows .entry)) (take (length (now (rows .entry))) bounds)) (FailsFirst (now (rows .entry))) ⌝ }
+    ensures { λ r. ⌜ Cases r (BoundsMade (now (rows .entry))) (FailsFirst (now (rows .entry))) ⌝ }
 {
     let mut bounds = [NO_BOUNDS; 32];
     for (place, row) in rows.iter().enumerate() {

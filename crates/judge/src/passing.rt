@@ -1,6 +1,5 @@
 // Whether a row passes below the rows above: each of its bounds exists and is at most its deadline.
-ghost use mathlib.Core.Path.{_≡_};
-ghost use Prim.Native.Nat.{ℕ, _≤_, _<_};
+ghost use Prim.Native.Nat.{_≤_};
 ghost use lib.ListN.{length};
 ghost use Rattle.std.specs.Results.{Cases};
 ghost use Rattle.judge.specs.Bounds.{NormalBound};

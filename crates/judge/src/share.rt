@@ -5,12 +5,15 @@ ghost use Rattle.judge.specs.Demand.{up, normalShare, lateShare, startShare};
 ghost use Rattle.row.specs.declared.rows.Row.{Row};
 use row::Row;
 
+// One row's share of a window, as one of the demands counts it.
 pub(crate) trait Share {
     // what row r takes of a window of length t
     ghost taken: { Self → ℕ → Row → ℕ };
 
+    // a longer window takes no less
     law rises: { (d : Self) (r : Row) (t u : ℕ) → t ≤ u → taken d t r ≤ taken d u r };
 
+    // a budget is at most its period, so jobs take at most the window and a period; a track has two kinds of them
     law bounded: { (d : Self) (r : Row) (t : ℕ) → taken d t r ≤ 2 * (t + 262143) };
 
     fn of(&self, row: &Row, window: u32) -> u64
@@ -67,6 +70,7 @@ pub(crate) impl Share for Start as StartShare {
     }
 }
 
+// How many jobs of this period arrive in the window.
 fn rounded_up(window: u32, period: u32) -> u32
     requires { ⌜ window ≤ 524286 ⌝ ∗ ⌜ 0 < period ⌝ ∗ ⌜ period ≤ 262143 ⌝ }
     ensures { λ r. ⌜ r ≡ up window period ⌝ }

@@ -15,4 +15,4 @@ pub returns : need.returns
 returns c =
     let least = c .in-Some .ensures tt in
     let bound = c .pre .bound .holds .0 in
-    record { start = start-found (c .args .above .now) (c .in-Some .start) (least .1); before = omega arith }
+    record { start = start-found (c .args .above .now) (c .in-Some .start) (least .0); before = omega arith }

@@ -1,4 +1,3 @@
-use Prim.Native.Nat.{_≤_}
 use mathlib.Core.Path.{refl}
 use native.Mathlib.Nat.{sub-zero}
 use native.Mathlib.Omega.{arith}
@@ -14,6 +13,7 @@ pub returns-in-Break-bounds : need.returns-in-Break-bounds
 returns-in-Break-bounds c =
     let p = err-from-errBy (c .from-residual-in-Break-bounds .result) (c .from-residual-in-Break-bounds .ensures .1) in
     let given = c .args .given .now in
+    let count = c .in-Continue-check-count .ensures tt in
     let made = c .in-Continue-rows .ensures tt in
     let rows = take (length given) (c .in-Continue-rows .rows) in
     let many = length-take-le (length given) (c .in-Continue-rows .rows) (omega arith) in
@@ -22,6 +22,7 @@ returns-in-Break-bounds c =
 pub ghost-plan : need.ghost-plan
 ghost-plan c =
     let given = c .args .given .now in
+    let count = c .in-Continue-check-count .ensures tt in
     let made = c .in-Continue-rows .ensures tt in
     let bound = c .in-Continue-bounds .ensures tt in
     let many = length-take-le (length given) (c .in-Continue-rows .rows) (omega arith) in
