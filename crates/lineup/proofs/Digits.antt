@@ -3,7 +3,7 @@ use Prim.Native.Nat.{ℕ, zero, suc, _+_, _-_, _*_, _/_, _%_, _^_, _<_, _≤_}
 use mathlib.Core.Path.{_≡_, refl, sym, ap, _∙_}
 use mathlib.Core.List.{List}
 use native.Mathlib.Omega.{arith}
-use native.Mathlib.Nat.{add-assoc, add-suc, add-zero, mul-assoc, add-mul, mul-one, pow-suc}
+use native.Mathlib.Nat.{zero-add, add-assoc, add-suc, add-zero, mul-assoc, add-mul, mul-one, pow-suc}
 use native.Mathlib.Numerals.{add-one}
 use lib.Dec.{lit≤}
 use mathlib.Core.Logic.{_≢_}
@@ -86,6 +86,12 @@ field-more bs n small =
 -- a field of w bits is below 2 ^ w
 pub field-below : (bs : List ℕ) (o w : ℕ) → field bs o w < 2 ^ w
 field-below bs o w = value-below (λ i. bitAt bs (o + i)) w (λ i. bit-below bs (o + i))
+
+-- the first a bits, and then a field
+pub field-join : (bs : List ℕ) (a w : ℕ) → field bs 0 (a + w) ≡ field bs 0 a * 2 ^ w + field bs a w
+field-join bs a w =
+    value-split (λ i. bitAt bs (0 + i)) a w
+    ∙ ap (λ z. field bs 0 a * 2 ^ w + z) (value-same _ _ w (λ i h. ap (bitAt bs) (zero-add (a + i))))
 
 -- a field cut out of a wider one
 pub field-cut : (bs : List ℕ) (o lead w tail : ℕ) → field bs o ((lead + w) + tail) / 2 ^ tail % 2 ^ w ≡ field bs (o + lead) w

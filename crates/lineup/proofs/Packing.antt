@@ -3,13 +3,13 @@ use Prim.Native.Nat.{ℕ, _+_, _-_, _*_, _/_, _%_, _^_, _<_, _≤_}
 use mathlib.Core.Path.{_≡_, refl, sym, ap, _∙_}
 use mathlib.Core.List.{List}
 use native.Mathlib.Omega.{arith}
-use native.Mathlib.Nat.{add-mul, zero-add}
+use native.Mathlib.Nat.{add-mul}
 use lib.Arith.{digits-lt}
 use lib.Bits.{bitAnd}
 use lib.Pow.{pow-mono}
 use Rattle.std.proofs.shelf.Bits.{shr-split, and-mask, one-shl, shl-whole, shl-below, mod-below, pow-pos, pow-add, shr-high, mod-low, shr-below}
-use Rattle.lineup.specs.Fields.{bitAt, field, withField}
-use Rattle.lineup.proofs.Digits.{value-same, value-split, field-below}
+use Rattle.lineup.specs.Fields.{field, withField}
+use Rattle.lineup.proofs.Digits.{field-join, field-below}
 
 -- a number is what stands before the field, the field, and what stands behind
 pub number-parts : (n t w : ℕ) → n ≡ n / 2 ^ t / 2 ^ w * 2 ^ w * 2 ^ t + n / 2 ^ t % 2 ^ w * 2 ^ t + n % 2 ^ t
@@ -30,7 +30,7 @@ with-field-is n t w v =
 
 -- a shifted value stays below 2 ^ 39
 pub value-small : (v t w : ℕ) → v < 2 ^ w → w ≤ 32 → t < 8 → v * 2 ^ t < 2 ^ 39
-value-small v t w h k l = 
+value-small v t w h k l =
     let few : w + t ≤ 39 = omega arith in
     omega (arith, shl-below v w t h, pow-mono few)
 
@@ -60,21 +60,11 @@ module _ (n t w v : ℕ) (fits : v < 2 ^ w) where
 
 -- the bits of a list: before a field, in it, and behind it
 module _ (bs : List ℕ) (lead w t : ℕ) where
-  split : field bs 0 ((lead + w) + t) ≡ field bs 0 (lead + w) * 2 ^ t + field bs (lead + w) t
-  split =
-      value-split (λ i. bitAt bs (0 + i)) (lead + w) t
-      ∙ ap (λ z. field bs 0 (lead + w) * 2 ^ t + z) (value-same _ _ t (λ i h. ap (bitAt bs) (zero-add ((lead + w) + i))))
-
-  front : field bs 0 (lead + w) ≡ field bs 0 lead * 2 ^ w + field bs lead w
-  front =
-      value-split (λ i. bitAt bs (0 + i)) lead w
-      ∙ ap (λ z. field bs 0 lead * 2 ^ w + z) (value-same _ _ w (λ i h. ap (bitAt bs) (zero-add (lead + i))))
-
   pub field-behind : field bs 0 ((lead + w) + t) % 2 ^ t ≡ field bs (lead + w) t
-  field-behind = ap (λ z. z % 2 ^ t) split ∙ mod-low (field bs 0 (lead + w)) t (field bs (lead + w) t) (field-below bs (lead + w) t)
+  field-behind = ap (λ z. z % 2 ^ t) (field-join bs (lead + w) t) ∙ mod-low (field bs 0 (lead + w)) t (field bs (lead + w) t) (field-below bs (lead + w) t)
 
   field-high : field bs 0 ((lead + w) + t) / 2 ^ t ≡ field bs 0 lead * 2 ^ w + field bs lead w
-  field-high = ap (λ z. z / 2 ^ t) split ∙ shr-high (field bs 0 (lead + w)) t (field bs (lead + w) t) (field-below bs (lead + w) t) ∙ front
+  field-high = ap (λ z. z / 2 ^ t) (field-join bs (lead + w) t) ∙ shr-high (field bs 0 (lead + w)) t (field bs (lead + w) t) (field-below bs (lead + w) t) ∙ field-join bs lead w
 
   pub field-inside : field bs 0 ((lead + w) + t) / 2 ^ t % 2 ^ w ≡ field bs lead w
   field-inside = ap (λ z. z % 2 ^ w) field-high ∙ mod-low (field bs 0 lead) w (field bs lead w) (field-below bs lead w)

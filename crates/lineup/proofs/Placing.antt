@@ -25,7 +25,7 @@ module _ (bs : List ℕ) (o w first past : ℕ) (f : first ≡ o / 8) (p : past 
 module _ (bs ps : List ℕ) (o w v first past : ℕ) (f : first ≡ o / 8) (p : past ≡ (o + w + 7) / 8) (within : o + w ≤ 8 * length bs) (some : 1 ≤ w)
     (fits : v < 2 ^ w) (long : length ps ≡ length (take (past - first) (drop first bs)))
     (stored : field ps 0 (8 * length (take (past - first) (drop first bs)))
-        ≡ withField (field (take (past - first) (drop first bs)) 0 (8 * length (take (past - first) (drop first bs)))) (8 * past - (o + w)) w v) where
+    ≡ withField (field (take (past - first) (drop first bs)) 0 (8 * length (take (past - first) (drop first bs)))) (8 * past - (o + w)) w v) where
   n : ℕ
   n = past - first
 
@@ -49,7 +49,7 @@ module _ (bs ps : List ℕ) (o w v first past : ℕ) (f : first ≡ o / 8) (p : 
       rw (← e) stored
 
   inside-part : field ps lead w ≡ v
-  inside-part = 
+  inside-part =
       sym (field-inside ps lead w tail) ∙ ap (λ z. z / 2 ^ tail % 2 ^ w) number ∙ with-field-inside (field part 0 ((lead + w) + tail)) tail w v fits
 
   before-part : field ps 0 lead ≡ field part 0 lead
@@ -125,5 +125,5 @@ module _ (bs ps : List ℕ) (o w v first past : ℕ) (f : first ≡ o / 8) (p : 
         long = search (needs, places);
         inside = inside-field;
         before = before-field;
-        behind = behind-field
+        behind = behind-field;
       }

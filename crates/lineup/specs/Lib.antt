@@ -4,3 +4,6 @@ pub mod Reading
 pub mod Readers
 pub mod Decoding
 pub mod RowLists
+pub mod Encoding
+pub mod Writing
+pub mod Writers

@@ -9,6 +9,7 @@ use Rattle.row.specs.declared.faults.Layer.the-variants as layers
 use Rattle.row.specs.declared.faults.Refusal.{Refusal}
 use Rattle.row.specs.declared.rows.RowNumbers.{RowNumbers}
 use Rattle.lineup.specs.declared.records.ReadFault.{ReadFault}
+use Rattle.lineup.specs.declared.records.WriteFault.{WriteFault}
 use Rattle.lineup.specs.declared.records.Record.{Record}
 use Rattle.lineup.specs.declared.records.Record.the-variants as records
 
@@ -26,6 +27,10 @@ itemOf records.End = end
 -- a fault of the reader, as the layers above see it
 abbrev pub faultOf : ReadFault → Fault
 faultOf e = record { refusal = e .refusal; layer = layers.Reader; place = e .offset }
+
+-- a fault of the writer
+abbrev pub writeFaultOf : WriteFault → Fault
+writeFaultOf e = record { refusal = e .refusal; layer = layers.Writer; place = e .place }
 
 -- what a read of a label gave, by the bytes of the input
 abbrev pub bytesRead : Result (RefT (List ℕ)) Refusal → Result (List ℕ) Refusal

@@ -1,7 +1,8 @@
-// A reader's fault on its way up: number and place stay, the layer is the reader.
+// Faults of the reader and the writer on their way up: number and place stay, the layer is added.
 ghost use mathlib.Core.Path.{_≡_};
-ghost use Rattle.lineup.specs.Records.{faultOf};
+ghost use Rattle.lineup.specs.Records.{faultOf, writeFaultOf};
 use super::records::ReadFault;
+use super::records::WriteFault;
 use row::Fault;
 use row::Layer;
 
@@ -13,6 +14,18 @@ pub impl From<ReadFault> for Fault as ReadFaultToFault {
             refusal: e.refusal,
             layer: Layer::Reader,
             place: e.offset as u64,
+        }
+    }
+}
+
+pub impl From<WriteFault> for Fault as WriteFaultToFault {
+    ghost converts = { λ e r. r ≡ writeFaultOf e };
+
+    fn from(e: WriteFault) -> Fault {
+        Fault {
+            refusal: e.refusal,
+            layer: Layer::Writer,
+            place: e.place as u64,
         }
     }
 }

@@ -97,7 +97,7 @@ fn all_printable(bytes: &[u8]) -> bool
     true
 }
 
-fn good_label(bytes: &[u8], after_row: bool) -> bool
+pub(crate) fn good_label(bytes: &[u8], after_row: bool) -> bool
     ensures { λ r. ⌜ r ≡ goodLabel (now (bytes .entry)) «after_row» ⌝ }
 {
     after_row && 0 < bytes.len() && all_printable(bytes)

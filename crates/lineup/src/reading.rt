@@ -48,7 +48,7 @@ fn record_in<'a>(
     }
 }
 
-fn row_size(numbers: &RowNumbers) -> usize
+pub(crate) fn row_size(numbers: &RowNumbers) -> usize
     ensures { λ r. ⌜ r ≡ sizeOf (row (now (numbers .entry))) ⌝ }
 {
     match numbers {

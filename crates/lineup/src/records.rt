@@ -17,3 +17,10 @@ pub struct ReadFault {
     pub refusal: Refusal,
     pub offset: usize,
 }
+
+// A refused write: why, and the bytes written so far, or the buffer's length where that is too short.
+#[derive(Clone, Copy)]
+pub struct WriteFault {
+    pub refusal: Refusal,
+    pub place: usize,
+}

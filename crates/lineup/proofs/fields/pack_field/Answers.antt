@@ -20,7 +20,7 @@ with-field-packed-requires c κs =
     let few : 8 * length part ≤ 40 = omega arith in
     record {
       small = (omega (arith, c .whole-number-number .ensures, field-below part 0 (8 * length part), pow-mono few), (omega arith, omega arith));
-      fits = c .pre .fits
+      fits = c .pre .fits;
     }
 
 pub store-number-requires : need.store-number-requires
@@ -38,10 +38,10 @@ store-number-requires c κs =
     let tail : ℕ = 8 * past - (o + w) in
     let small : n < 2 ^ ((lead + w) + tail) = subst (λ k. n < 2 ^ k) bits (field-below part 0 (8 * length part)) in
     let is : c .with-field-packed .result ≡ withField n tail w v =
-        c .with-field-packed .ensures ∙ ap (λ z. withField z tail w v) (c .whole-number-number .ensures) in
+    c .with-field-packed .ensures ∙ ap (λ z. withField z tail w v) (c .whole-number-number .ensures) in
     record {
       few = omega arith;
-      fits = subst (λ k. c .with-field-packed .result < 2 ^ k) (sym bits) (subst (λ z. z < 2 ^ ((lead + w) + tail)) (sym is) (with-field-below n tail w v (c .pre .fits) lead small))
+      fits = subst (λ k. c .with-field-packed .result < 2 ^ k) (sym bits) (subst (λ z. z < 2 ^ ((lead + w) + tail)) (sym is) (with-field-below n tail w v (c .pre .fits) lead small));
     }
 
 pub returns : need.returns

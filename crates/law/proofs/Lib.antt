@@ -1,0 +1,16 @@
+pub mod Basics
+pub mod Numbers
+pub mod Sums
+pub mod Tallies
+pub mod Windows
+pub mod Deadlines
+pub mod Checks
+pub mod Steps
+pub mod Orderly
+pub mod Timely
+pub mod Kept
+pub mod Blocks
+pub mod Law
+pub mod Represents
+pub mod Overrun
+pub mod Example
