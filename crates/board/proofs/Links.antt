@@ -12,7 +12,7 @@ use Rattle.std.proofs.shelf.Tests.{cases-eq, cases-lt}
 use Rattle.sets.specs.Sets.{member}
 use Rattle.sets.specs.Chains.{off, onChain}
 use Rattle.sets.proofs.Members.{member-within}
-use Rattle.board.specs.Order.{Begins, GoesOn, nextFrom}
+use Rattle.board.specs.Order.{Begins, GoesOn}
 use Rattle.board.proofs.Order.{Follows, next-follows, follows-one, not-before, keep, join-before, join-behind, leave-between}
 
 -- the chain from `head` on, through the rows xs in order

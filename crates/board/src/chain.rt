@@ -1,17 +1,19 @@
 // A board as a chain of its rows in order: the first row, and for each row on the board the one behind it.
 ghost use mathlib.Core.Path.{_≡_};
 ghost use mathlib.Core.Bool.{true, false};
-ghost use Prim.Native.Nat.{_≤_, _<_};
-ghost use lib.ListN.{length, getD, set};
+ghost use Prim.Native.Nat.{_<_};
+ghost use lib.ListN.{length, set};
 ghost use Rattle.sets.specs.Sets.{empty, member};
 ghost use Rattle.sets.specs.Chains.{onChain};
 ghost use Rattle.board.specs.Order.{Begins, GoesOn, LastBelow};
 use super::Board;
+use super::ROWS;
 
-const ROWS: u32 = 32;
-// The link of a row that is not on the board. The link of the last row on it is `ROWS`.
+// The link of a row that is not on the board. That of the last row on it is `ROWS`, where the chain ends.
 const OFF: u32 = u32::MAX;
 
+// The chain begins with the smallest row on the board, and behind each row on the board stands the next larger one.
+// So it rises, visits exactly the rows on the board, and ends.
 #[derive(Drop)]
 pub struct ChainBoard {
     head: u32,
@@ -22,6 +24,7 @@ pub struct ChainBoard {
 }
 
 impl ChainBoard {
+    // An empty board.
     pub fn new() -> ChainBoard
         ensures { λ r. ⌜ onChain (r .links) ≡ empty 32 ⌝ }
     {
@@ -31,6 +34,7 @@ impl ChainBoard {
         }
     }
 
+    // Whether `row` is on the board.
     fn holds(&self, row: u32) -> bool
         ensures { λ r. ⌜ r ≡ member (onChain (now (self .entry) .links)) row ⌝ }
     {
@@ -76,9 +80,9 @@ impl ChainBoard {
         requires { ⌜ now self .head < 32 ⌝ }
         ensures { λ _. ⌜ onChain (now (self .exit) .links) ≡ set (onChain (now (self .entry) .links)) (now (self .entry) .head) false ⌝ }
     {
-        let row = self.head;
-        self.head = self.links[row as usize];
-        self.links[row as usize] = OFF;
+        let first = self.head;
+        self.head = self.links[first as usize];
+        self.links[first as usize] = OFF;
     }
 
     // Takes off `row`, which stands behind `place`.

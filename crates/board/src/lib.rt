@@ -13,6 +13,9 @@ pub use chain::ChainBoard;
 pub use word::BoardInWord;
 pub use word::WordBoard;
 
+// How many row numbers there are: 0 to 31.
+pub const ROWS: u32 = 32;
+
 // A board is a set of row numbers from 0 to 31. What a call does not name stays as it was.
 pub trait Board {
     // the rows on the board

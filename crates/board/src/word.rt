@@ -1,12 +1,9 @@
 // A board in one word: row k is on the board where the binary digit k is 1.
 ghost use mathlib.Core.Path.{_≡_};
-ghost use mathlib.Core.Bool.{true};
-ghost use Prim.Native.Nat.{_<_, _≤_};
 ghost use Rattle.sets.specs.Sets.{empty, member};
 ghost use Rattle.sets.specs.Digits.{digits};
 use super::Board;
-
-const ROWS: u32 = 32;
+use super::ROWS;
 
 #[derive(Drop)]
 pub struct WordBoard {
@@ -14,12 +11,14 @@ pub struct WordBoard {
 }
 
 impl WordBoard {
+    // An empty board.
     pub fn new() -> WordBoard
         ensures { λ r. ⌜ digits 32 (r .word) ≡ empty 32 ⌝ }
     {
         WordBoard { word: 0 }
     }
 
+    // Whether `row` is on the board.
     fn holds(&self, row: u32) -> bool
         ensures { λ r. ⌜ r ≡ member (digits 32 (now (self .entry) .word)) row ⌝ }
     {
@@ -38,7 +37,7 @@ pub impl Board for WordBoard as BoardInWord {
         if row >= ROWS || self.holds(row) {
             return false;
         }
-        self.word ^= 1 << row;
+        self.word |= 1 << row;
         true
     }
 

@@ -1,5 +1,4 @@
 -- What any pool with these free blocks may answer to a call, and its free blocks after the call. Assumes nothing.
-use Prim.Native.Nat.{ℕ}
 use mathlib.Core.Path.{_≡_}
 use mathlib.Core.Bool.{Bool, true, false}
 use mathlib.Core.List.{List}

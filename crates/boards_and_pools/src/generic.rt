@@ -4,12 +4,12 @@ ghost use lib.Dec.{ltb};
 ghost use Rattle.sets.specs.Sets.{size, smallest, without};
 ghost use Rattle.boards_and_pools.specs.Boards.{rowOrNone, boardSays, boardAfter};
 ghost use Rattle.boards_and_pools.specs.Pools.{PoolSays, poolAfter};
-use board::Board;
-use pool::Pool;
 use super::boards::BoardAnswer;
 use super::boards::BoardCall;
 use super::pools::PoolAnswer;
 use super::pools::PoolCall;
+use board::Board;
+use pool::Pool;
 
 // Takes off the smallest row.
 pub fn pop_first<B: Board>(board: &mut B) -> Option<u32>

@@ -36,7 +36,12 @@ pub(crate) fn pass(above: &[Row], row: &Row, place: u64) -> Result<Bounds, Judge
 }
 
 // The mixed and long bound of a track with this normal bound, or the first of them that fails.
-fn late_bounds(above: &[Row], track: &Track, normal: u32, place: u64) -> Result<LateBounds, JudgeFault>
+fn late_bounds(
+    above: &[Row],
+    track: &Track,
+    normal: u32,
+    place: u64,
+) -> Result<LateBounds, JudgeFault>
     requires few { ⌜ length (now above) ≤ 32 ⌝ }
     requires bound { ⌜ NormalBound (now above) (now track .short) normal ⌝ }
     requires timely { ⌜ normal ≤ now track .deadline ⌝ }

@@ -27,5 +27,11 @@ pub(crate) fn long_bound(above: &[Row], track: &Track, normal: u32) -> Option<u3
     ensures { λ r. ⌜ FoundUpTo (now (track .entry) .deadline) (LongBound (now (above .entry)) (now (track .entry) .long)) r ⌝ }
 {
     let start = latest_start(above, track.short, normal);
-    greatest_finish(above, track.long, Origin::Instant, start.max(1), track.deadline)
+    greatest_finish(
+        above,
+        track.long,
+        Origin::Instant,
+        start.max(1),
+        track.deadline,
+    )
 }

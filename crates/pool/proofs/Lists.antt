@@ -92,7 +92,8 @@ module _ (pool : FreeListPool) where
       let few = pool .number .1 in
       let many = pool .many in
       let first = take (pool .blocks) (pool .links) in
-      sym (member-chain first b (omega (arith, length-take-le (pool .blocks) (pool .links) (omega arith))) ∙ ap (λ link. not (eqb link off)) (getD-take (pool .blocks) (pool .links) b 0 h))
+      let within : b < length first = omega (arith, length-take-le (pool .blocks) (pool .links) (omega arith)) in
+      sym (member-chain first b within ∙ ap (λ link. not (eqb link off)) (getD-take (pool .blocks) (pool .links) b 0 h))
 
   pub is-past : (b : ℕ) → pool .blocks ≤ b → ltb b (pool .blocks) ≡ member free b
   is-past b h = test-past (take (pool .blocks) (pool .links)) (pool .blocks) b (sym (length-chain (take (pool .blocks) (pool .links))) ∙ length-free) h

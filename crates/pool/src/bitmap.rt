@@ -7,6 +7,7 @@ ghost use Rattle.pool.specs.Pools.{blocksFor};
 use super::Pool;
 use super::number::blocks_for;
 
+// No digit from `blocks` on is 1, so the digits that are 1 count the free blocks.
 #[derive(Drop)]
 pub struct BitmapPool {
     blocks: u32,
@@ -44,7 +45,7 @@ pub impl Pool for BitmapPool as PoolInBitmap {
         if block >= self.blocks || self.is_free(block) {
             return false;
         }
-        self.word ^= 1 << block;
+        self.word |= 1 << block;
         true
     }
 

@@ -9,11 +9,13 @@ ghost use Rattle.pool.specs.Visits.{freeIn, visits};
 use super::Pool;
 use super::number::blocks_for;
 
-// The link of a block that is not free, and that of the last free block.
+// The link of a block that is not free.
 const OFF: u32 = u32::MAX;
 
+// The link of the last free block: no block has this number.
 const END: u32 = 64;
 
+// The list visits `count` free blocks, each once, and then ends; and `count` is how many there are. So it visits them all.
 #[derive(Drop)]
 pub struct FreeListPool {
     blocks: u32,
@@ -81,8 +83,9 @@ pub impl Pool for FreeListPool as PoolInFreeList {
             return None;
         }
         let block = self.head;
-        self.head = self.links[block as usize];
+        let behind = self.links[block as usize];
         self.links[block as usize] = OFF;
+        self.head = behind;
         self.count -= 1;
         Some(block)
     }

@@ -2,6 +2,7 @@
 ghost use mathlib.Core.Path.{_≡_};
 ghost use Rattle.pool.specs.Pools.{blocksFor};
 
+// No pool has more blocks.
 pub const MOST: u32 = 64;
 
 // `n` brought into 1 to 64.

@@ -1,4 +1,4 @@
--- A word as a set: how shifts, exclusive or and the counts of binary digits tell of its members. Assumes nothing.
+-- A word as a set: how shifts, `|`, `^` and the counts of binary digits tell of its members and change them. Assumes nothing.
 use Prim.Native.Nat.{ℕ, zero, suc, _+_, _-_, _*_, _/_, _%_, _^_, _≤_, _<_, min}
 use mathlib.Core.Path.{_≡_, refl, sym, ap, ap₂, _∙_}
 use mathlib.Core.Bool.{Bool, true, false, not}
@@ -11,7 +11,7 @@ use lib.Dec.{eqb, ltb}
 use lib.Arith.{lt-one}
 use lib.ListN.{length, set}
 use lib.Pow.{pow-pos, ones-lt, ones-split, high}
-use lib.Bits.{bitAnd, bitXor, and-mask, xor-lt, xor-zero-r, xor-mod, xor-shr}
+use lib.Bits.{bitAnd, bitOr, bitXor, and-mask, or-lt, or-zero-r, or-mod, or-shr, xor-lt, xor-zero-r, xor-mod, xor-shr}
 use lib.Count.{ones, ones-step, ones-ones, trailingZeros, under}
 use Rattle.std.proofs.shelf.Lists.{getD-past}
 use Rattle.std.proofs.shelf.Bits.{shr-shr, one-shl, pow-below}
@@ -50,43 +50,49 @@ test-digit n word k h = ap (λ d. eqb d 1) (and-mask (word / 2 ^ k) 1) ∙ sym (
 pub test-past : (n word k : ℕ) → n ≤ k → ltb k n ≡ member (digits n word) k
 test-past n word k h = le-ltb k n h ∙ sym (getD-past (digits n word) k false (omega (arith, length-digits n word)))
 
--- exclusive or with 2 ^ k flips digit k and leaves the others
-pub digits-flip : (n word k : ℕ) → digits n (bitXor word (2 ^ k)) ≡ set (digits n word) k (not (member (digits n word) k))
-unfolding digits
-digits-flip zero word k = refl
-digits-flip (suc n) word zero = ap₂ (λ d w. d ∷ digits n w) low rest
-  where
-    flipped : (d : ℕ) → d < 2 → eqb (bitXor d 1) 1 ≡ not (eqb d 1)
-    flipped d h = below-two d h (λ d. eqb (bitXor d 1) 1 ≡ not (eqb d 1)) refl refl
+-- An operation on the digits place by place, which leaves a digit beside a 0 and turns one beside a 1.
+-- With 2 ^ k it turns digit k and leaves the others.
+module _ (op : ℕ → ℕ → ℕ) (turn : Bool → Bool)
+    (low-digits : (a b k : ℕ) → op a b % 2 ^ k ≡ op (a % 2 ^ k) (b % 2 ^ k))
+    (high-digits : (a b k : ℕ) → op a b / 2 ^ k ≡ op (a / 2 ^ k) (b / 2 ^ k))
+    (beside-zero : (a : ℕ) → op a 0 ≡ a) (beside-one : (d : ℕ) → d < 2 → eqb (op d 1) 1 ≡ turn (eqb d 1)) where
+  digits-turn : (n word k : ℕ) → digits n (op word (2 ^ k)) ≡ set (digits n word) k (turn (member (digits n word) k))
+  unfolding digits
+  digits-turn zero word k = refl
+  digits-turn (suc n) word zero = ap₂ (λ d w. d ∷ digits n w) low rest
+    where
+      low : eqb (op word 1 % 2) 1 ≡ turn (eqb (word % 2) 1)
+      low = ap (λ d. eqb d 1) (low-digits word 1 1) ∙ beside-one (word % 2) (omega arith)
 
-    low : eqb (bitXor word 1 % 2) 1 ≡ not (eqb (word % 2) 1)
-    low = ap (λ d. eqb d 1) (xor-mod word 1 1) ∙ flipped (word % 2) (omega arith)
+      rest : op word 1 / 2 ≡ word / 2
+      rest = high-digits word 1 1 ∙ beside-zero (word / 2)
+  digits-turn (suc n) word (suc k) = ap₂ (λ d xs. eqb d 1 ∷ xs) low (ap (digits n) rest ∙ digits-turn n (word / 2) k)
+    where
+      low : op word (2 ^ suc k) % 2 ≡ word % 2
+      low = low-digits word (2 ^ suc k) 1 ∙ ap (op (word % 2)) (omega (arith, pow-suc 2 k)) ∙ beside-zero (word % 2)
 
-    rest : bitXor word 1 / 2 ≡ word / 2
-    rest = xor-shr word 1 1 ∙ xor-zero-r (word / 2)
-digits-flip (suc n) word (suc k) =
-    ap₂ (λ d xs. eqb d 1 ∷ xs) low (ap (digits n) rest ∙ digits-flip n (word / 2) k)
-  where
-    low : bitXor word (2 ^ suc k) % 2 ≡ word % 2
-    low = xor-mod word (2 ^ suc k) 1 ∙ ap (bitXor (word % 2)) (omega (arith, pow-suc 2 k)) ∙ xor-zero-r (word % 2)
+      rest : op word (2 ^ suc k) / 2 ≡ op (word / 2) (2 ^ k)
+      rest = high-digits word (2 ^ suc k) 1 ∙ ap (op (word / 2)) (omega (arith, pow-suc 2 k))
 
-    rest : bitXor word (2 ^ suc k) / 2 ≡ bitXor (word / 2) (2 ^ k)
-    rest = xor-shr word (2 ^ suc k) 1 ∙ ap (bitXor (word / 2)) (omega (arith, pow-suc 2 k))
+-- `|` with a shifted 1, in a word of w digits, puts k into the set
+pub digits-on : (w n word k : ℕ) → k < w → digits n (bitOr word (1 * 2 ^ k % 2 ^ w)) ≡ set (digits n word) k true
+digits-on w n word k h =
+    ap (λ m. digits n (bitOr word m)) (one-shl k w h)
+    ∙ digits-turn bitOr (λ _. true) or-mod or-shr or-zero-r (λ d l. below-two d l (λ d. eqb (bitOr d 1) 1 ≡ true) refl refl) n word k
 
--- the same by a shifted 1 in a word of w digits
-flip : (w n word k : ℕ) (b : Bool) → k < w → member (digits n word) k ≡ b → digits n (bitXor word (1 * 2 ^ k % 2 ^ w)) ≡ set (digits n word) k (not b)
-flip w n word k b h e =
-    ap (λ m. digits n (bitXor word m)) (one-shl k w h) ∙ digits-flip n word k ∙ ap (λ b. set (digits n word) k (not b)) e
+-- `^` with a shifted 1 takes k, which is a member, out of the set
+pub digits-off : (w n word k : ℕ) → k < w → member (digits n word) k ≡ true → digits n (bitXor word (1 * 2 ^ k % 2 ^ w)) ≡ set (digits n word) k false
+digits-off w n word k h present =
+    ap (λ m. digits n (bitXor word m)) (one-shl k w h)
+    ∙ digits-turn bitXor not xor-mod xor-shr xor-zero-r (λ d l. below-two d l (λ d. eqb (bitXor d 1) 1 ≡ not (eqb d 1)) refl refl) n word k
+    ∙ ap (λ b. set (digits n word) k (not b)) present
 
-pub flip-on : (w n word k : ℕ) → k < w → member (digits n word) k ≡ false → digits n (bitXor word (1 * 2 ^ k % 2 ^ w)) ≡ set (digits n word) k true
-flip-on w n word k = flip w n word k false
+-- neither touches the digits from n on, where k is below n
+pub on-below : (w n word k : ℕ) → k < n → n ≤ w → word < 2 ^ n → bitOr word (1 * 2 ^ k % 2 ^ w) < 2 ^ n
+on-below w n word k h l fits = rw (one-shl k w (omega arith)) (or-lt n word (2 ^ k) fits (pow-below k n h))
 
-pub flip-off : (w n word k : ℕ) → k < w → member (digits n word) k ≡ true → digits n (bitXor word (1 * 2 ^ k % 2 ^ w)) ≡ set (digits n word) k false
-flip-off w n word k = flip w n word k true
-
--- flipping one of the n lowest digits leaves the higher ones
-pub flip-below : (w n word k : ℕ) → k < n → n ≤ w → word < 2 ^ n → bitXor word (1 * 2 ^ k % 2 ^ w) < 2 ^ n
-flip-below w n word k h l fits = rw (one-shl k w (omega arith)) (xor-lt n word (2 ^ k) fits (pow-below k n h))
+pub off-below : (w n word k : ℕ) → k < n → n ≤ w → word < 2 ^ n → bitXor word (1 * 2 ^ k % 2 ^ w) < 2 ^ n
+off-below w n word k h l fits = rw (one-shl k w (omega arith)) (xor-lt n word (2 ^ k) fits (pow-below k n h))
 
 pub digits-empty : (n : ℕ) → digits n 0 ≡ empty n
 unfolding digits empty

@@ -1,3 +1,4 @@
 pub mod Sets
+pub mod Laws
 pub mod Digits
 pub mod Chains

@@ -9,4 +9,4 @@ returns c =
     let track = c .args .track .now in
     let instants : c .max .result ≡ max 1 (c .latest-start-start .result) = search needs in
     long-judged (c .args .above .now) (track .long) (c .latest-start-start .result) (track .deadline) (c .latest-start-start .ensures .start) (c .greatest-finish .result)
-        (rw instants at (c .greatest-finish .ensures))
+    (rw instants at (c .greatest-finish .ensures))

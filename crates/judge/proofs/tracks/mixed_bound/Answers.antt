@@ -16,6 +16,7 @@ returns c =
     let track = c .args .track .now in
     let above = c .args .above .now in
     let late = c .in-Continue-late .ensures tt in
-    let greater : max (c .args .normal) (c .in-Continue-late .late) ≡ c .max .result = search needs in
-    (subst (λ m. MixedBound above (track .short) m) greater (mixed-found above (track .short) (c .args .normal) _ (c .pre .bound) (late .0)),
-     omega (arith, late .1, c .pre .timely))
+    let greater : max (c .args .normal) (c .in-Continue-late .late) ≡ c .max .result = search needs in (
+      subst (λ m. MixedBound above (track .short) m) greater (mixed-found above (track .short) (c .args .normal) _ (c .pre .bound) (late .0)),
+      omega (arith, late .1, c .pre .timely),
+    )

@@ -1,6 +1,5 @@
 use native.Mathlib.Omega.{arith}
-use borrow.Author.Needs.{needs}
-use Rattle.board.proofs.Changes.{head-on, link-larger, link-on, row-within}
+use Rattle.board.proofs.Changes.{head-on, link-larger, link-on}
 use Rattle.board.proofs.chain.ChainBoard.last_below.Needs as need
 
 pub loop-place-holds : need.loop-place-holds

@@ -1,7 +1,7 @@
 use mathlib.Core.Path.{sym}
 use native.Mathlib.Omega.{arith}
 use Rattle.sets.specs.Digits.{digits}
-use Rattle.sets.proofs.Digits.{length-digits, flip-on}
+use Rattle.sets.proofs.Digits.{length-digits, digits-on}
 use Rattle.sets.proofs.Members.{join-absent, join-past, join-present}
 use Rattle.board.proofs.word.BoardInWord.add.Needs as need
 use Rattle.board.proofs.word.BoardInWord.add.Needs.{then-row-ge-ROWS·by·then-row-ge-ROWS, then-row-ge-ROWS·by·else-row-ge-ROWS·then-holds}
@@ -19,4 +19,4 @@ returns c =
     let word = c .args .self .now .word in
     let absent = sym (c .if-holds .ensures tt) in
     join-absent (digits 32 word) _ (c .args .row) (omega (arith, length-digits 32 word)) absent
-    (flip-on 32 32 word (c .args .row) (c .if-row-ge-ROWS .left) absent)
+    (digits-on 32 32 word (c .args .row) (c .if-row-ge-ROWS .left))

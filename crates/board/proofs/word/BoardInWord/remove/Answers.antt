@@ -1,6 +1,6 @@
 use mathlib.Core.Path.{sym}
 use Rattle.sets.specs.Digits.{digits}
-use Rattle.sets.proofs.Digits.{within-digits, flip-off}
+use Rattle.sets.proofs.Digits.{within-digits, digits-off}
 use Rattle.sets.proofs.Members.{leave-present}
 use Rattle.board.proofs.word.BoardInWord.remove.Needs as need
 
@@ -12,4 +12,4 @@ returns c =
     let word = c .args .self .now .word in
     let row = c .args .row in
     let present = sym (c .if-not-holds .ensures tt) in
-    leave-present (digits 32 word) _ row present (flip-off 32 32 word row (within-digits 32 word row present) present)
+    leave-present (digits 32 word) _ row present (digits-off 32 32 word row (within-digits 32 word row present) present)

@@ -1,7 +1,7 @@
 use mathlib.Core.Path.{refl}
 use native.Mathlib.Omega.{arith}
 use Rattle.sets.specs.Digits.{digits}
-use Rattle.sets.proofs.Digits.{smallest-digits, none-digits, flip-off, flip-below}
+use Rattle.sets.proofs.Digits.{smallest-digits, none-digits, digits-off, off-below}
 use Rattle.sets.proofs.Members.{smallest-member}
 use Rattle.pool.proofs.bitmap.PoolInBitmap.take.Needs as need
 
@@ -14,11 +14,11 @@ returns-then-block-self c =
 pub ghost-self : need.ghost-self
 ghost-self c =
     let pool = c .args .self .now in
-    (pool .number, (flip-below 64 (pool .blocks) (pool .word) _ (c .if-block-self .left) (pool .number .1) (pool .range), tt))
+    (pool .number, (off-below 64 (pool .blocks) (pool .word) _ (c .if-block-self .left) (pool .number .1) (pool .range), tt))
 
 pub returns : need.returns
 returns c =
     let pool = c .args .self .now in
     let found = smallest-digits (pool .blocks) 64 (pool .word) (pool .number .1) (c .if-block-self .left) in
     let present = smallest-member (digits (pool .blocks) (pool .word)) _ found in
-    record { answer = present; after = flip-off 64 (pool .blocks) (pool .word) _ (omega arith) present }
+    record { answer = present; after = digits-off 64 (pool .blocks) (pool .word) _ (omega arith) present }

@@ -13,7 +13,7 @@ pub index-self-block-2 : need.index-self-block-2
 index-self-block-2 c = omega (arith, head-within (c .args .self .now))
 
 pub sub-self : need.sub-self
-sub-self c = begun (c .args .self .now) (c .if-self-eq-END .left)
+sub-self c = omega (arith, begun (c .args .self .now) (c .if-self-eq-END .left))
 
 pub ghost-self : need.ghost-self
 ghost-self c =
