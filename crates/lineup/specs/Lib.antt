@@ -7,3 +7,6 @@ pub mod RowLists
 pub mod Encoding
 pub mod Writing
 pub mod Writers
+pub mod Standing
+pub mod Holding
+pub mod Copying

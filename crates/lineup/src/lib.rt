@@ -1,4 +1,5 @@
 // Line-ups as bytes: bit fields, records, the reader and the writer.
+mod copying;
 mod faults;
 mod fields;
 mod pack;
@@ -11,6 +12,7 @@ mod whole;
 mod writer;
 mod writing;
 
+pub use copying::copy;
 pub use faults::ReadFaultToFault;
 pub use faults::WriteFaultToFault;
 pub use reader::Reader;

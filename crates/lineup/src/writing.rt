@@ -1,8 +1,10 @@
 // Writing one record behind the other.
 ghost use mathlib.Core.Path.{_≡_};
+ghost use mathlib.Core.List.{List, []};
 ghost use denote.Ref.{name};
+ghost use Rattle.lineup.specs.Holding.{Holds, HoldsMore, ReadsBack};
 ghost use Rattle.lineup.specs.Reading.{start, sizeOf, rowsIn};
-ghost use Rattle.lineup.specs.Records.{itemOf, end};
+ghost use Rattle.lineup.specs.Records.{Item, itemOf, end};
 ghost use Rattle.lineup.specs.Writers.{placeOf, bufferOf, rowItem, Wrote, Finished};
 ghost use Rattle.lineup.specs.Writing.{RowKept, mayStand, misplaced, labelItem};
 use super::pack::emit;
@@ -18,6 +20,8 @@ impl<'a> Writer<'a> {
     pub fn new(buffer: &'a mut [u8]) -> Writer<'a>
         ensures place { λ r. ⌜ placeOf r ≡ start ⌝ }
         ensures buffer { λ r. ⌜ bufferOf r ≡ now (buffer .entry) ⌝ }
+        ensures holds { λ r. ⌜ Holds r [] ⌝ }
+        ensures same { λ r. ⌜ name (r .buffer) ≡ name (buffer .entry) ⌝ }
     {
         Writer {
             buffer,
@@ -32,6 +36,7 @@ impl<'a> Writer<'a> {
     pub fn put(&mut self, row: &Row) -> Result<(), WriteFault>
         ensures wrote { λ r. ⌜ Wrote (now (self .entry)) (now (self .exit)) (rowItem (now (row .entry))) r ⌝ }
         ensures same { λ _. ⌜ name (now (self .exit) .buffer) ≡ name (now (self .entry) .buffer) ⌝ }
+        ensures holds { λ r. ⌜ ((items : List Item) → Holds (now (self .entry)) items → HoldsMore r (now (self .exit)) items (rowItem (now (row .entry)))) ⌝ }
     {
         self.write(&row_record(row))
     }
@@ -40,6 +45,8 @@ impl<'a> Writer<'a> {
     pub fn label(&mut self, bytes: &[u8]) -> Result<(), WriteFault>
         ensures wrote { λ r. ⌜ Wrote (now (self .entry)) (now (self .exit)) (labelItem (placeOf (now (self .entry))) (now (bytes .entry))) r ⌝ }
         ensures same { λ _. ⌜ name (now (self .exit) .buffer) ≡ name (now (self .entry) .buffer) ⌝ }
+        ensures holds { λ r. ⌜ ((items : List Item) → Holds (now (self .entry)) items
+            → HoldsMore r (now (self .exit)) items (labelItem (placeOf (now (self .entry))) (now (bytes .entry)))) ⌝ }
     {
         let offset = self.at.saturating_add(1);
         self.write(&Record::Label { offset, bytes })
@@ -49,6 +56,8 @@ impl<'a> Writer<'a> {
     pub fn finish(&mut self) -> Result<usize, WriteFault>
         ensures wrote { λ r. ⌜ Finished (now (self .entry)) (now (self .exit)) r ⌝ }
         ensures same { λ _. ⌜ name (now (self .exit) .buffer) ≡ name (now (self .entry) .buffer) ⌝ }
+        ensures holds { λ r. ⌜ ((items : List Item) → Holds (now (self .entry)) items → HoldsMore r (now (self .exit)) items end) ⌝ }
+        ensures back { λ r. ⌜ ((items : List Item) → Holds (now (self .entry)) items → ReadsBack r (now (self .exit)) items) ⌝ }
     {
         self.write(&end_record())?;
         Ok(self.at)
@@ -66,7 +75,7 @@ impl<'a> Writer<'a> {
     }
 
     // Writes the record behind the last one, or refuses and changes nothing.
-    fn write(&mut self, piece: &Record<'_>) -> Result<(), WriteFault>
+    pub(crate) fn write(&mut self, piece: &Record<'_>) -> Result<(), WriteFault>
         requires { ⌜ RowKept (itemOf (now piece)) ⌝ }
         ensures wrote { λ r. ⌜ Wrote (now (self .entry)) (now (self .exit)) (itemOf (now (piece .entry))) r ⌝ }
         ensures same { λ _. ⌜ name (now (self .exit) .buffer) ≡ name (now (self .entry) .buffer) ⌝ }
