@@ -1,0 +1,4 @@
+pub mod Tables
+pub mod Histories
+pub mod Admissions
+pub mod Reports
