@@ -18,6 +18,8 @@ use pool::PoolInBitmap;
 use pool::PoolInFreeList;
 use row::Kind;
 use row::RowNumbers;
+use session::Session;
+use session::SessionFault;
 use session::replay;
 use std::io;
 
@@ -112,6 +114,43 @@ fn run<B: Board + Drop, P: Pool + Drop>(
     println!(rt, "")
 }
 
+// Gives the processor for one tick to the row that is due. A turn that was just begun is never refused.
+fn tick<B: Board, P: Pool>(session: &mut Session<'_, B, P>) -> Result<Outcome, SessionFault> {
+    let turn = session.begin()?;
+    match session.report(turn, false) {
+        Ok(outcome) => Ok(outcome),
+        Err(_refused) => unreachable(),
+    }
+}
+
+// The worked example, tick by tick with the turn token: no job is reported finished, and row 2 is cut by the report that makes the clock 15.
+fn run_worked<B: Board + Drop, P: Pool + Drop>(plan: &Plan, board: B, pool: P) -> [Outcome; 15] {
+    let mut session = Session::open(plan, board, pool, NUMBER);
+    let _ = session.arrive(1, Kind::Normal);
+    let _ = session.arrive(2, Kind::Abnormal);
+    let _ = session.arrive(0, Kind::Abnormal);
+    let mut outcomes = [Outcome::Idle; 15];
+    for clock in 0..15usize {
+        if clock == 10 {
+            let _ = session.arrive(0, Kind::Abnormal);
+        }
+        if let Ok(outcome) = tick(&mut session) {
+            outcomes[clock] = outcome;
+        }
+    }
+    let _ = session.close();
+    outcomes
+}
+
+fn show_worked(rt: &LibcRuntime, name: &str, outcomes: [Outcome; 15]) -> io::Result<()> {
+    print!(rt, "{name}, worked example:")?;
+    for outcome in outcomes.iter() {
+        print_answer(rt, Answer::Done(*outcome))?;
+        print!(rt, ",")?;
+    }
+    println!(rt, "")
+}
+
 fn main(rt: LibcRuntime) -> io::Result<()> {
     let mut plan = Plan::new();
     if judge(&mut plan, &ROWS).is_err() {
@@ -171,5 +210,9 @@ fn main(rt: LibcRuntime) -> io::Result<()> {
         ChainBoard::new(),
         FreeListPool::new(1),
         &calls,
-    )
+    )?;
+    let outcomes = run_worked(&plan, WordBoard::new(), BitmapPool::new(3));
+    show_worked(&rt, "word and bit map", outcomes)?;
+    let outcomes = run_worked(&plan, ChainBoard::new(), FreeListPool::new(3));
+    show_worked(&rt, "chain and free list", outcomes)
 }
