@@ -1,4 +1,6 @@
 // Boards: which rows have an unended job, and which of them goes first.
+#![tactic(auto)]
+
 ghost use Rattle.std.specs.Prelude.{◌≡◌, Bool, List, length};
 ghost use Rattle.sets.specs.Sets.{empty, member, joins, joined, left, smallest, IsSmallest};
 

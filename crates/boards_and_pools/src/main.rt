@@ -1,4 +1,6 @@
 // Puts the same calls to both boards and to both pools, and prints their answers side by side.
+#![tactic(auto)]
+
 use board::{ChainBoard, WordBoard};
 use boards::BoardCall;
 use generic::{answer_board, answer_pool};

@@ -1,4 +1,6 @@
 // The format of a line-up: its records, and the definitions of decoding and encoding with both round trips.
+#![tactic(auto)]
+
 mod faults;
 mod labels;
 mod records;

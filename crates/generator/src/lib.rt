@@ -1,4 +1,6 @@
 // Numbers for generated tests: the same sequence at every run.
+#![tactic(auto)]
+
 ghost use Rattle.std.specs.Prelude.{◌≡◌, ◌<◌, max, eqb};
 ghost use Rattle.generator.specs.Draws.{after, drawn};
 

@@ -1,4 +1,6 @@
 // The judge: whether each job of a line-up makes its deadline, by response-time analysis.
+#![tactic(auto)]
+
 mod bounds;
 mod demand;
 mod faults;

@@ -1,4 +1,6 @@
 // Judges generated lists of rows and compares the answers, and the plan that stands, with those of a plain search.
+#![tactic(auto)]
+
 mod compare;
 mod demands;
 mod entries;

@@ -1,4 +1,6 @@
 // The law of a session: what may be asked of it, what it may answer, and that no job is ever late.
+#![tactic(auto)]
+
 ghost use Rattle.law.specs.Example.{Example};
 ghost use Rattle.law.specs.Law.{TheLaw};
 

@@ -1,4 +1,6 @@
 // Line-ups as bytes: the reader, the writer, and copying by both.
+#![tactic(auto)]
+
 mod copying;
 
 pub use copying::copy;

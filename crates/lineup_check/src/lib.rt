@@ -1,4 +1,6 @@
 // The check call: reads a line-up, judges it and lists its bounds.
+#![tactic(auto)]
+
 mod checking;
 mod lines;
 mod text;

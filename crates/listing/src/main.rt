@@ -1,4 +1,6 @@
 // Prints the listing of the line-up at standard input.
+#![tactic(auto)]
+
 use lineup_check::check_lineup;
 use std::io;
 use std::io::Read;

@@ -1,4 +1,6 @@
 // Prints the listing of each line-up at standard input, where a line is a name, a colon and bytes in hexadecimal.
+#![tactic(auto)]
+
 use lineup_check::check_lineup;
 use std::alloc::Global;
 use std::io;

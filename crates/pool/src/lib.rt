@@ -1,4 +1,6 @@
 // Pools: which blocks of a fixed number are free.
+#![tactic(auto)]
+
 ghost use Rattle.std.specs.Prelude.{◌≡◌, ◌≤◌, Bool, List, length};
 ghost use Rattle.sets.specs.Sets.{member, joins, joined, without, size, IsMember};
 

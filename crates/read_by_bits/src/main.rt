@@ -1,4 +1,6 @@
 // Reads generated line-ups, whole and damaged, and compares the reader with a decoder that works bit by bit.
+#![tactic(auto)]
+
 mod bits;
 mod compare;
 mod damage;

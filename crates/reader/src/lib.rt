@@ -1,4 +1,6 @@
 // Reads line-ups: record by record, or the rows of a whole one.
+#![tactic(auto)]
+
 mod parts;
 mod reader;
 mod reading;

@@ -1,4 +1,6 @@
 // Replays one list of steps over both boards and both pools, and prints the answers side by side.
+#![tactic(auto)]
+
 use board::{Board, ChainBoard, WordBoard};
 use judge::{Plan, judge};
 use law::{Answer, Call, Outcome, Step, TurnNumbers, Work};

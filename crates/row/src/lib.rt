@@ -1,4 +1,6 @@
 // Rows of a line-up, their limits, and the faults by which every layer refuses.
+#![tactic(auto)]
+
 mod faults;
 mod making;
 mod rows;

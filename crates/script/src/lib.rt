@@ -1,4 +1,6 @@
 // Scripts of a session: what their words say.
+#![tactic(auto)]
+
 mod commands;
 mod hex;
 mod words;

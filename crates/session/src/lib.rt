@@ -1,4 +1,6 @@
 // A session: runs a judged plan tick by tick over any board and any pool.
+#![tactic(auto)]
+
 mod arriving;
 mod beginning;
 mod faults;

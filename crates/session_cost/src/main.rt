@@ -1,5 +1,7 @@
 // What a session's calls cost, over both boards and both pools. With no argument it makes some thousands of calls and
 // prints a checksum of their answers; with a number of ticks as argument it prints the time of a call too.
+#![tactic(auto)]
+
 use board::{Board, ChainBoard, WordBoard};
 use judge::{Plan, judge};
 use law::Outcome;

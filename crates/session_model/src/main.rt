@@ -1,4 +1,6 @@
 // Runs sessions on generated lists of calls, over both boards and both pools, and compares each answer with a plain model.
+#![tactic(auto)]
+
 mod compare;
 mod forged;
 mod history;

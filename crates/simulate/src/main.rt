@@ -1,4 +1,6 @@
 // Rehearses a session: makes the calls of the script at standard input, and prints what comes of them.
+#![tactic(auto)]
+
 mod parsing;
 mod reading;
 mod running;

@@ -1,4 +1,6 @@
 // What a session's answers come to, tick by tick and job by job.
+#![tactic(auto)]
+
 mod marks;
 mod trace;
 mod tracing;

@@ -1,4 +1,6 @@
 // Writes the line-ups of examples/ with the writer and prints them: a name, a colon and bytes in hexadecimal.
+#![tactic(auto)]
+
 use lineup::Writer;
 use row::{Fault, Row, RowNumbers};
 use std::alloc::Global;

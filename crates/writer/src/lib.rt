@@ -1,4 +1,6 @@
 // Writes line-ups to a buffer, record by record.
+#![tactic(auto)]
+
 mod pack;
 mod writer;
 mod writing;
