@@ -3,7 +3,8 @@ ghost use Rattle.std.specs.Prelude.{◌≡◌, ◌<◌, true, false, length, set
 ghost use Rattle.sets.specs.Sets.{empty, member};
 ghost use Rattle.sets.specs.Chains.{on_chain};
 ghost use Rattle.board.specs.Order.{Begins, GoesOn, LastBelow};
-ghost use Rattle.std.proofs.Common.{rules, arith};
+ghost use Rattle.std.proofs.Common.{◌∙◌};
+ghost use Rattle.sets.proofs.Chains.{length_chain};
 
 use super::{Board, ROWS};
 
@@ -99,7 +100,7 @@ impl ChainBoard {
 impl Board for ChainBoard {
     ghost rows = { λ board. on_chain board.links };
 
-    ghost range = { first_of (Prim.search rules, Prim.grind (arith, Self.row.coded.inj)) };
+    ghost range = { λ board. length_chain board.links ∙ board.many };
 
     fn clear(&mut self) {
         *self = ChainBoard::new();

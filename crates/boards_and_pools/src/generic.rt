@@ -11,8 +11,8 @@ use pool::Pool;
 
 // Takes off the smallest row.
 pub fn pop_first<B: Board>(board: &mut B) -> Option<u32>
-    ensures answer { result ≡ smallest (rows board.old) }
-    ensures after { rows board.new ≡ without (rows board.old) result }
+    ensures answer { result ≡ smallest (B.rows board.old) }
+    ensures after { B.rows board.new ≡ without (B.rows board.old) result }
 {
     let row = board.first()?;
     board.remove(row);
@@ -21,8 +21,8 @@ pub fn pop_first<B: Board>(board: &mut B) -> Option<u32>
 
 // Puts a call to the board.
 pub fn answer_board<B: Board>(board: &mut B, call: BoardCall) -> BoardAnswer
-    ensures answer { result ≡ board_says (rows board.old) call }
-    ensures after { rows board.new ≡ board_after (rows board.old) call }
+    ensures answer { result ≡ board_says (B.rows board.old) call }
+    ensures after { B.rows board.new ≡ board_after (B.rows board.old) call }
 {
     match call {
         BoardCall::Add(row) => BoardAnswer::Said(board.add(row)),
@@ -47,8 +47,8 @@ fn row_or_none(row: Option<u32>) -> BoardAnswer
 
 // Takes a block and gives it back, and says whether there was one. The pool is then as it was.
 pub fn take_and_return<P: Pool>(pool: &mut P) -> bool
-    ensures answer { result ≡ nat_lt 0 (size (free pool.old)) }
-    ensures after { free pool.new ≡ free pool.old }
+    ensures answer { result ≡ nat_lt 0 (size (P.free pool.old)) }
+    ensures after { P.free pool.new ≡ P.free pool.old }
 {
     match pool.take() {
         Some(block) => pool.give(block),
@@ -58,8 +58,8 @@ pub fn take_and_return<P: Pool>(pool: &mut P) -> bool
 
 // Puts a call to the pool.
 pub fn answer_pool<P: Pool>(pool: &mut P, call: PoolCall) -> PoolAnswer
-    ensures answer { PoolSays (free pool.old) call result }
-    ensures after { free pool.new ≡ pool_after (free pool.old) call result }
+    ensures answer { PoolSays (P.free pool.old) call result }
+    ensures after { P.free pool.new ≡ pool_after (P.free pool.old) call result }
 {
     match call {
         PoolCall::Take => match pool.take() {

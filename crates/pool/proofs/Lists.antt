@@ -5,7 +5,7 @@ use Rattle.std.proofs.lemmas.Bool.{and_parts}
 use Rattle.sets.specs.Sets.{empty, full, member, size, IsEmpty}
 use Rattle.sets.specs.Chains.{off, on_chain}
 use Rattle.sets.proofs.Members.{member-empty, size-within, size_join, size_leave, none_empty}
-use Rattle.sets.proofs.Chains.{length_chain, member_chain, test_past, chain_empty, chain_on, chain_off}
+use Rattle.sets.proofs.Chains.{length_chain, length_chain_first, member_chain, test_past, chain_empty, chain_on, chain_off}
 use Rattle.pool.specs.Visits.{end, free_in, visits}
 use Rattle.pool.specs.declared.free_list.FreeListPool.{FreeListPool}
 use Rattle.pool.proofs.Visits.{starts_within, visits_none, visits-some, visits-take, visits_give}
@@ -71,10 +71,7 @@ module _ (pool : FreeListPool) where
   free = free_in pool.blocks pool.links
 
   pub length-free : length free ≡ pool.blocks
-  length-free =
-      let few = pool.number.1 in
-      let many = pool.many in
-      length_chain (take pool.blocks pool.links) ∙ length-take-le pool.blocks pool.links (omega arith)
+  length-free = length_chain_first pool.links pool.blocks 64 pool.number.1 pool.many
 
   pub count-within : pool.count ≤ pool.blocks
   count-within = omega (arith, size-within free, length-free, pool.counted)

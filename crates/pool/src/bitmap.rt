@@ -3,8 +3,8 @@ ghost use Rattle.std.specs.Prelude.{◌≡◌, ◌^◌, ◌<◌, ◌≤◌};
 ghost use Rattle.sets.specs.Sets.{full};
 ghost use Rattle.sets.specs.Digits.{digits};
 ghost use Rattle.pool.specs.Pools.{blocks_for};
-ghost use Rattle.std.proofs.Common.{arith};
 ghost use Rattle.sets.proofs.Digits.{length_digits};
+ghost use Rattle.sets.proofs.Members.{sized};
 
 use super::Pool;
 use super::number::blocks_for;
@@ -35,7 +35,7 @@ impl BitmapPool {
 impl Pool for BitmapPool {
     ghost free = { λ pool. digits pool.blocks pool.word };
 
-    ghost range = { λ pool. let many = length_digits pool.blocks pool.word in (omega arith, omega arith) };
+    ghost range = { λ pool. sized _ _ (length_digits pool.blocks pool.word) pool.number };
 
     fn take(&mut self) -> Option<u32> {
         let block = self.word.trailing_zeros();

@@ -3,7 +3,8 @@ ghost use Rattle.std.specs.Prelude.{◌≡◌, ◌<◌, ◌≤◌, true, false, 
 ghost use Rattle.sets.specs.Sets.{empty, full, member, size};
 ghost use Rattle.pool.specs.Pools.{blocks_for};
 ghost use Rattle.pool.specs.Visits.{free_in, visits};
-ghost use Rattle.std.proofs.Common.{rules, arith};
+ghost use Rattle.sets.proofs.Chains.{length_chain_first};
+ghost use Rattle.sets.proofs.Members.{sized};
 
 use super::Pool;
 use super::number::blocks_for;
@@ -78,7 +79,7 @@ impl FreeListPool {
 impl Pool for FreeListPool {
     ghost free = { λ pool. free_in pool.blocks pool.links };
 
-    ghost range = { first_of (Prim.search rules, Prim.grind (arith, Self.row.coded.inj)) };
+    ghost range = { λ pool. sized _ _ (length_chain_first pool.links pool.blocks 64 pool.number.1 pool.many) pool.number };
 
     fn take(&mut self) -> Option<u32> {
         if self.head == END {

@@ -1,11 +1,15 @@
 -- How the numbers on a chain change with a link. Assumes nothing.
-use Rattle.std.proofs.Common.{◌≡◌, ℕ, zero, suc, ◌<◌, ◌≤◌, true, false, not, eqb, ltb, List, ◌∷◌, length, get_or, set, replicate, sym, refl, ap, ◌∙◌, arith, le-ltb, ne_eqb}
-use Rattle.std.proofs.lemmas.List.{length-map, map-set, get_or-map, get_or_past, set-get_or}
+use Rattle.std.proofs.Common.{◌≡◌, ℕ, zero, suc, ◌<◌, ◌≤◌, true, false, not, eqb, ltb, List, ◌∷◌, length, get_or, take, set, replicate, sym, refl, ap, ◌∙◌, arith, le-ltb, ne_eqb}
+use Rattle.std.proofs.lemmas.List.{length-map, length-take-le, map-set, get_or-map, get_or_past, set-get_or}
 use Rattle.sets.specs.Sets.{empty, member}
 use Rattle.sets.specs.Chains.{off, on_chain}
 
 pub length_chain : (links : List ℕ) → length (on_chain links) ≡ length links
 length_chain links = length-map links (λ link. not (eqb link off))
+
+-- the same of the first n links
+pub length_chain_first : (links : List ℕ) (n many : ℕ) → n ≤ many → length links ≡ many → length (on_chain (take n links)) ≡ n
+length_chain_first links n many h e = length_chain (take n links) ∙ length-take-le n links (omega (arith, e))
 
 -- where every link is `off`, no number is on the chain
 pub chain_empty : (n : ℕ) → on_chain (replicate n off) ≡ empty n

@@ -129,3 +129,7 @@ rejoin xs k present =
     let back : set (set xs k false) k true ≡ xs = set-set xs k false true ∙ ap (set xs k) (sym present) ∙ set-get_or xs k false in
     let h = join_absent (set xs k false) xs k (omega (arith, length-set xs k false)) (get_or-set_same xs k false false within) (sym back) in
     (sym h.answer, sym h.after)
+
+-- a set of a number of members that is 1 to 64
+pub sized : (xs : List Bool) (n : ℕ) → length xs ≡ n → (1 ≤ n) × (n ≤ 64) → (1 ≤ length xs) × (length xs ≤ 64)
+sized xs n e h = (omega (arith, e, h.0), omega (arith, e, h.1))

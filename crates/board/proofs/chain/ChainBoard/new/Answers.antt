@@ -4,9 +4,9 @@ use Rattle.sets.specs.Sets.{empty}
 use Rattle.sets.proofs.Members.{member-empty}
 use Rattle.board.proofs.chain.ChainBoard.new.Goals as goal
 
-pub invariant-of-result : goal.invariant-of-result
+pub invariant_of-result : goal.invariant_of-result
 unfolding empty
-invariant-of-result c = (refl, (refl, (λ row e. absurd (both_ways _ (member-empty 32 row) e), tt)))
+invariant_of-result c = record { many = refl; begins = refl; on = λ row e. absurd (both_ways _ (member-empty 32 row) e) }
 
 pub returns : goal.returns
 unfolding empty

@@ -10,10 +10,10 @@ bounds-self-place c = row_within c.args.self.now c.args.place c.requires.last.0
 pub bounds-self-row-2 : goal.bounds-self-row-2
 bounds-self-row-2 c = row_within c.args.self.now c.args.row c.requires.present
 
-pub invariant-of-self : goal.invariant-of-self
-invariant-of-self c =
+pub invariant_of-self : goal.invariant_of-self
+invariant_of-self c =
     let chain = unlinked_after c.args.self.now c.args.place c.args.row c.requires.last c.requires.present in
-    (chain.many, (chain.begins, (chain.on, tt)))
+    record { many = chain.many; begins = chain.begins; on = chain.on }
 
 pub returns : goal.returns
 returns c = (unlinked_after c.args.self.now c.args.place c.args.row c.requires.last c.requires.present).rows_are

@@ -14,10 +14,10 @@ returns-then-row-ge-ROWS c =
       | then-row-ge-ROWS-via-else-row-ge-ROWS+then-holds w ↦ join_present rows c.args.row (sym w.if-holds.ensures)
     ]
 
-pub last-below-place-requires : goal.last-below-place-requires
-last-below-place-requires c =
+pub last_below-place-requires : goal.last_below-place-requires
+last_below-place-requires c =
     let within = c.if-row-ge-ROWS.false in
-    (head_below c.args.self.now c.args.row (sym c.if-holds.ensures) within c.if-row-self.false, within)
+    record { head_lt_row = head_below c.args.self.now c.args.row (sym c.if-holds.ensures) within c.if-row-self.false; row_bound = within }
 
 pub returns-then-row-self : goal.returns-then-row-self
 returns-then-row-self c =

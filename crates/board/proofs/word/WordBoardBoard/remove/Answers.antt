@@ -4,8 +4,8 @@ use Rattle.sets.proofs.Digits.{within-digits, digits-off}
 use Rattle.sets.proofs.Members.{leave_present}
 use Rattle.board.proofs.word.WordBoardBoard.remove.Goals as goal
 
-pub overflow-shl-self : goal.overflow-shl-self
-overflow-shl-self c = within-digits 32 c.args.self.now.word c.args.row (sym c.if-not-holds.ensures)
+pub overflow_shl-self : goal.overflow_shl-self
+overflow_shl-self c = within-digits 32 c.args.self.now.word c.args.row (sym c.if-not-holds.ensures)
 
 pub returns : goal.returns
 returns c =

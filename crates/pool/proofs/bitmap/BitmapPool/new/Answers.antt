@@ -6,14 +6,14 @@ use Rattle.sets.specs.Digits.{digits}
 use Rattle.sets.proofs.Digits.{ones_shifted, digits-full}
 use Rattle.pool.proofs.bitmap.BitmapPool.new.Goals as goal
 
-pub invariant-of-result : goal.invariant-of-result
-invariant-of-result c =
-    let blocks = c.blocks-for-blocks.result in
+pub invariant_of-result : goal.invariant_of-result
+invariant_of-result c =
+    let blocks = c.blocks_for-blocks.result in
     let few : blocks ≤ 64 = omega arith in
-    ((omega arith, few), (subst⁻¹ (λ word. word < 2 ^ blocks) (ones_shifted 64 blocks few) (ones_lt blocks), tt))
+    record { number = (omega arith, few); range = subst⁻¹ (λ word. word < 2 ^ blocks) (ones_shifted 64 blocks few) (ones_lt blocks) }
 
 pub returns : goal.returns
 returns c =
-    let blocks = c.blocks-for-blocks.result in
+    let blocks = c.blocks_for-blocks.result in
     let few : blocks ≤ 64 = omega arith in
-    ap (digits blocks) (ones_shifted 64 blocks few) ∙ digits-full blocks ∙ ap full c.blocks-for-blocks.ensures
+    ap (digits blocks) (ones_shifted 64 blocks few) ∙ digits-full blocks ∙ ap full c.blocks_for-blocks.ensures

@@ -10,10 +10,10 @@ returns-then-block-self c =
     let none = none_digits pool.blocks 64 pool.word pool.number.1 c.if-block-self.true in
     record { answer = smallest-member (digits pool.blocks pool.word) _ none; after = refl }
 
-pub invariant-of-self : goal.invariant-of-self
-invariant-of-self c =
+pub invariant_of-self : goal.invariant_of-self
+invariant_of-self c =
     let pool = c.args.self.now in
-    (pool.number, (off_below 64 pool.blocks pool.word _ c.if-block-self.false pool.number.1 pool.range, tt))
+    record { number = pool.number; range = off_below 64 pool.blocks pool.word _ c.if-block-self.false pool.number.1 pool.range }
 
 pub returns : goal.returns
 returns c =

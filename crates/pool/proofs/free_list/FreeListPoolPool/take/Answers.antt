@@ -11,14 +11,14 @@ bounds-self-block c = omega (arith, head_within c.args.self.now)
 pub bounds-self-block-2 : goal.bounds-self-block-2
 bounds-self-block-2 c = omega (arith, head_within c.args.self.now)
 
-pub overflow-sub-self : goal.overflow-sub-self
-overflow-sub-self c = omega (arith, begun c.args.self.now c.if-self-eq-END.false)
+pub overflow_sub-self : goal.overflow_sub-self
+overflow_sub-self c = omega (arith, begun c.args.self.now c.if-self-eq-END.false)
 
-pub invariant-of-self : goal.invariant-of-self
-invariant-of-self c =
+pub invariant_of-self : goal.invariant_of-self
+invariant_of-self c =
     let pool = c.args.self.now in
     let list = taken pool c.if-self-eq-END.false in
-    (pool.number, (list.many, (list.counted, (list.visited, tt))))
+    record { number = pool.number; many = list.many; counted = list.counted; visited = list.visited }
 
 pub returns : goal.returns
 returns c =
