@@ -4,16 +4,16 @@ use Rattle.fields.proofs.Digits.{field_below}
 use Rattle.fields.proofs.Packing.{with_field_below}
 use Rattle.fields.proofs.Placing.{part_long, part_bits, part_number, packed}
 use Rattle.fields.proofs.fields.place_field.Goals as goal
-use Rattle.fields.proofs.fields.place_field.Goals.{After-whole-number-number}
+use Rattle.fields.proofs.fields.place_field.Goals.{After-whole_number-number}
 
 -- the bytes that hold the field, as one number
-whole : (c : After-whole-number-number) → c.whole-number-number.result
+whole : (c : After-whole_number-number) → c.whole_number-number.result
     ≡ field (take ((c.args.offset + c.args.width + 7) / 8 - c.args.offset / 8) (drop (c.args.offset / 8) c.args.bytes.now)) 0
     (8 * length (take ((c.args.offset + c.args.width + 7) / 8 - c.args.offset / 8) (drop (c.args.offset / 8) c.args.bytes.now)))
-whole c = c.whole-number-number.ensures ∙ part_number c.args.bytes.now c.args.offset c.args.width _ _ refl refl c.requires.within
+whole c = c.whole_number-number.ensures ∙ part_number c.args.bytes.now c.args.offset c.args.width _ _ refl refl c.requires.within
 
-pub with-field-packed-requires : goal.with-field-packed-requires
-with-field-packed-requires c =
+pub with_field-packed-requires : goal.with_field-packed-requires
+with_field-packed-requires c =
     let o = c.args.offset in
     let w = c.args.width in
     let first : ℕ = o / 8 in
@@ -26,8 +26,8 @@ with-field-packed-requires c =
       fits = c.requires.fits;
     }
 
-pub store-number-requires : goal.store-number-requires
-store-number-requires c =
+pub store_number-requires : goal.store_number-requires
+store_number-requires c =
     let o = c.args.offset in
     let w = c.args.width in
     let v = c.args.value in
@@ -40,16 +40,16 @@ store-number-requires c =
     let lead : ℕ = o - 8 * first in
     let tail : ℕ = 8 * past - (o + w) in
     let small : n < 2 ^ ((lead + w) + tail) = subst (λ k. n < 2 ^ k) bits (field_below part 0 (8 * length part)) in
-    let is : c.with-field-packed.result ≡ with_field n tail w v =
-    c.with-field-packed.ensures ∙ ap (λ z. with_field z tail w v) (whole (goal.at.store-number-requires c).After-whole-number-number) in
+    let is : c.with_field-packed.result ≡ with_field n tail w v =
+    c.with_field-packed.ensures ∙ ap (λ z. with_field z tail w v) (whole (goal.at.store_number-requires c).After-whole_number-number) in
     record {
       few = omega arith;
-      fits = subst (λ k. c.with-field-packed.result < 2 ^ k) (sym bits) (subst (λ z. z < 2 ^ ((lead + w) + tail)) (sym is) (with_field_below n tail w v c.requires.fits lead small));
+      fits = subst (λ k. c.with_field-packed.result < 2 ^ k) (sym bits) (subst (λ z. z < 2 ^ ((lead + w) + tail)) (sym is) (with_field_below n tail w v c.requires.fits lead small));
     }
 
 pub returns : goal.returns
 returns c =
     let tail : ℕ = 8 * ((c.args.offset + c.args.width + 7) / 8) - (c.args.offset + c.args.width) in
-    packed c.args.bytes.now c.store-number.new.bytes c.args.offset c.args.width c.args.value _ _ refl refl c.requires.within
-    c.requires.fits c.store-number.auto.bytes
-    (c.store-number.ensures ∙ c.with-field-packed.ensures ∙ ap (λ z. with_field z tail c.args.width c.args.value) (whole (goal.at.returns c).After-whole-number-number))
+    packed c.args.bytes.now c.store_number.new.bytes c.args.offset c.args.width c.args.value _ _ refl refl c.requires.within
+    c.requires.fits c.store_number.auto.bytes
+    (c.store_number.ensures ∙ c.with_field-packed.ensures ∙ ap (λ z. with_field z tail c.args.width c.args.value) (whole (goal.at.returns c).After-whole_number-number))

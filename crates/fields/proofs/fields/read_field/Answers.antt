@@ -9,4 +9,4 @@ returns c =
     let bits = c.min-bits.result in
     let few = c.min-bits.ensures in
     rw (one_shl bits 64 (omega arith), and_mask)
-    (field_from_bytes c.args.bytes.now c.args.offset bits _ _ _ refl refl c.whole-number-value.ensures ∙ ap (field c.args.bytes.now c.args.offset) few)
+    (field_from_bytes c.args.bytes.now c.args.offset bits _ _ _ refl refl c.whole_number-value.ensures ∙ ap (field c.args.bytes.now c.args.offset) few)

@@ -20,15 +20,15 @@ pub loop-k-init : goal.loop-k-init
 unfolding value_of
 loop-k-init c = let e : c.args.first - c.args.first ≡ 0 = omega arith in rw e refl
 
-pub overflow-mul-value : goal.overflow-mul-value
-overflow-mul-value c = omega (arith, below c.args.bytes.now c.args.first (c.loop-k.k - c.args.first) (omega arith))
+pub overflow_mul-value : goal.overflow_mul-value
+overflow_mul-value c = omega (arith, below c.args.bytes.now c.args.first (c.loop-k.k - c.args.first) (omega arith))
 
-pub overflow-add-value : goal.overflow-add-value
-overflow-add-value c =
+pub overflow_add-value : goal.overflow_add-value
+overflow_add-value c =
     omega (arith, below c.args.bytes.now c.args.first (c.loop-k.k - c.args.first) (omega arith))
 
 pub loop-k-preserved : goal.loop-k-preserved
-loop-k-preserved c = omega (arith, one_more c.args.bytes.now c.args.first c.loop-k.k (omega arith) (c.type-inv.bytes c.loop-k.k).fits)
+loop-k-preserved c = omega (arith, one_more c.args.bytes.now c.args.first c.loop-k.k (omega arith) (c.type_inv.bytes c.loop-k.k).fits)
 
 pub returns : goal.returns
 returns c =

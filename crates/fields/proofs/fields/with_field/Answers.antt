@@ -10,13 +10,13 @@ new_field c =
     ap (λ v. v * 2 ^ c.args.tail % 2 ^ 64) c.from.ensures
     ∙ shl_whole c.args.value c.args.width c.args.tail 64 c.requires.fits (omega arith)
 
-pub overflow-sub-result : goal.overflow-sub-result
-overflow-sub-result c =
+pub overflow_sub-result : goal.overflow_sub-result
+overflow_sub-result c =
     rw (old_field c.args.number c.args.tail c.args.width (omega arith) (omega arith))
     (omega (arith, number_parts c.args.number c.args.tail c.args.width))
 
-pub overflow-add-result : goal.overflow-add-result
-overflow-add-result c =
+pub overflow_add-result : goal.overflow_add-result
+overflow_add-result c =
     omega (arith, new_field c, value_small c.args.value c.args.tail c.args.width c.requires.fits (omega arith) (omega arith))
 
 pub returns : goal.returns

@@ -15,11 +15,11 @@ at_no bs i h e = sym (step bs i h ∙ ap (λ b. b && all_printable (drop (i + 1)
 
 pub loop-byte-preserved : goal.loop-byte-preserved
 loop-byte-preserved c =
-    at_yes c.args.bytes.now c.loop-byte.byte-index (omega arith) c.if-not-is-printable.ensures ∙ c.loop-byte.invariant
+    at_yes c.args.bytes.now c.loop-byte.byte-index (omega arith) c.if-not-is_printable.ensures ∙ c.loop-byte.invariant
 
-pub returns-then-not-is-printable : goal.returns-then-not-is-printable
-returns-then-not-is-printable c =
-    at_no c.args.bytes.now c.loop-byte.byte-index (omega arith) c.if-not-is-printable.ensures ∙ c.loop-byte.invariant
+pub returns-then-not-is_printable : goal.returns-then-not-is_printable
+returns-then-not-is_printable c =
+    at_no c.args.bytes.now c.loop-byte.byte-index (omega arith) c.if-not-is_printable.ensures ∙ c.loop-byte.invariant
 
 pub returns : goal.returns
 returns c = sym (at_drop_all all_printable c.args.bytes.now c.loop-byte.byte-index (omega arith)) ∙ c.loop-byte.invariant
