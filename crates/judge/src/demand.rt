@@ -9,7 +9,7 @@ use row::Row;
 // The demand of a window: a first budget of its own, and the share of each row above.
 fn demand<S: Share>(share: &S, above: &[Row], own: u32, window: u32) -> u64
     requires { (length above.now ≤ 32) × (window ≤ 524286) }
-    ensures { result ≡ demand_by (taken share.now) above.now own window }
+    ensures { result ≡ demand_by (S.taken share.now) above.now own window }
 {
     let mut sum = own as u64;
     for row in above {
@@ -22,7 +22,7 @@ fn demand<S: Share>(share: &S, above: &[Row], own: u32, window: u32) -> u64
 // since demands rise with the window: so the search jumps from demand to demand.
 pub(crate) fn least<S: Share>(share: &S, above: &[Row], own: u32, limit: u32) -> Option<u32>
     requires { (length above.now ≤ 32) × (limit ≤ 524286) }
-    ensures { LeastUpTo limit (HasRoom (taken share.now) above.now own) result }
+    ensures { LeastUpTo limit (HasRoom (S.taken share.now) above.now own) result }
 {
     let mut window = own as u64;
     while window <= limit as u64 {

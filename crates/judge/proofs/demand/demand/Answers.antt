@@ -3,8 +3,8 @@ use Rattle.judge.specs.Demand.{demand_by}
 use Rattle.judge.proofs.Demands.{demand_more}
 use Rattle.judge.proofs.demand.demand.Goals as goal
 
-pub overflow-add-sum : goal.overflow-add-sum
-overflow-add-sum g c =
+pub overflow_add-sum : goal.overflow_add-sum
+overflow_add-sum g c =
     let small = g.met.S.Share.bounded c.args.share.now c.row-item.result c.args.window in
     omega arith
 

@@ -3,8 +3,8 @@ use Rattle.row.specs.Rows.{numbers_of}
 use Rattle.judge.proofs.Made.{not_all_keep, made_more}
 use Rattle.judge.proofs.judging.make_rows.Goals as goal
 
-pub returns-in-default : goal.returns-in-default
-returns-in-default c = (refl, not_all_keep c.args.given.now c.loop-place.place _ c.loop-place-test.true c.in-default.ensures.0)
+pub returns-in_default : goal.returns-in_default
+returns-in_default c = (refl, not_all_keep c.args.given.now c.loop-place.place _ c.loop-place-test.true c.in_default.ensures.0)
 
 pub loop-place-preserved : goal.loop-place-preserved
 loop-place-preserved c =
