@@ -42,7 +42,7 @@ impl<'a> Writer<'a> {
         ensures wrote { Wrote self.old self.new (label_item (place_of self.old) bytes.now) result }
         ensures same { self.new.buffer.ghost_name ≡ self.old.buffer.ghost_name }
         ensures holds { (items : List Item) → Holds self.old items
-            → HoldsMore result self.new items (labelItem (place_of self.old) bytes.now) }
+            → HoldsMore result self.new items (label_item (place_of self.old) bytes.now) }
     {
         let offset = self.at.saturating_add(1);
         self.write(&Record::Label { offset, bytes })

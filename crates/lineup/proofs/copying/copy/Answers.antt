@@ -12,9 +12,9 @@ returns-then-space-input c =
     record {
       answer =
           sym (cond-true _ _ _ (lt-ltb space (length input) c.if-space-input.true))
-          ∙ reads_answer rows_among _ (decode input) (length input) space c.in-ok-read-rows.ensures;
+          ∙ reads_answer rows_among _ (decode input) (length input) space c.in_ok-read_rows.ensures;
       output = refl;
-      encodes = λ items. encode-decode input items (λ k. (c.type-inv.input k).fits);
+      encodes = λ items. encode-decode input items (λ k. (c.type_inv.input k).fits);
     }
 
 pub returns : goal.returns
@@ -24,7 +24,7 @@ returns c =
     record {
       answer =
           sym (cond-false _ _ _ (le-ltb space (length input) c.if-space-input.false))
-          ∙ reads_answer rows_among _ (decode input) (length input) space c.in-ok-read-rows.ensures;
+          ∙ reads_answer rows_among _ (decode input) (length input) space c.in_ok-read_rows.ensures;
       output = search rules;
-      encodes = λ items. encode-decode input items (λ k. (c.type-inv.input k).fits);
+      encodes = λ items. encode-decode input items (λ k. (c.type_inv.input k).fits);
     }

@@ -21,33 +21,33 @@ loop-seen-init c =
       c.new-writer.ensures.place ∙ sym c.new-reader.ensures.place,
       refl,
       subst (Copied input old old) (sym c.new-reader.ensures.place)
-          (copied_none input old (omega (arith, ap length same)) (λ k. (c.type-inv.input k).fits) c.requires.reads),
+          (copied_none input old (omega (arith, ap length same)) (λ k. (c.type_inv.input k).fits) c.requires.reads),
     )
 
-pub returns-in-err-seen : goal.returns-in-err-seen
-returns-in-err-seen c =
+pub returns-in_err-seen : goal.returns-in_err-seen
+returns-in_err-seen c =
     let place = readerPlace c.loop-seen.reader in
     absurd (no_fault c.args.input.now (buffer_of c.new-writer.result) (buffer_of c.loop-seen.writer) place c.loop-seen.invariant.3 _
-    (c.in-err-seen.ensures.answer ∙ ap (λ bs. read_at bs place) c.loop-seen.invariant.0))
+    (c.in_err-seen.ensures.answer ∙ ap (λ bs. read_at bs place) c.loop-seen.invariant.0))
 
 -- the record that was read, and where the reader stands behind it
 seen_at : (c : In-Some) → Ok (Some (item_of c.in-Some.seen)) ≡ read_at c.args.input.now (readerPlace c.loop-seen.reader)
 seen_at c =
-    sym (ap (λ o. answer_of (Ok o)) c.in-Some.is) ∙ c.in-ok-seen.ensures.answer
+    sym (ap (λ o. answer_of (Ok o)) c.in-Some.is) ∙ c.in_ok-seen.ensures.answer
     ∙ ap (λ bs. read_at bs (readerPlace c.loop-seen.reader)) c.loop-seen.invariant.0
 
 behind_seen : (c : In-Some) → readerPlace c.next.new.self ≡ behind (readerPlace c.loop-seen.reader) (item_of c.in-Some.seen)
 behind_seen c =
-    c.in-ok-seen.ensures.place ∙ ap (λ o. place_after (readerPlace c.loop-seen.reader) (answer_of (Ok o))) c.in-Some.is
+    c.in_ok-seen.ensures.place ∙ ap (λ o. place_after (readerPlace c.loop-seen.reader) (answer_of (Ok o))) c.in-Some.is
 
-pub put-record-requires : goal.put-record-requires
-put-record-requires c =
+pub put_record-requires : goal.put_record-requires
+put_record-requires c =
     let input = c.args.input.now in
     let old = buffer_of c.new-writer.result in
     let buffer = buffer_of c.loop-seen.writer in
     let place = readerPlace c.loop-seen.reader in
     let item = item_of c.in-Some.seen in
-    let seen = seen_at (goal.at.put-record-requires c).In-Some in
+    let seen = seen_at (goal.at.put_record-requires c).In-Some in
     let here = sym c.loop-seen.invariant.1 in
     record {
       kept = (
@@ -73,13 +73,13 @@ loop-seen-preserved c =
     let buffer = buffer_of c.loop-seen.writer in
     let place = readerPlace c.loop-seen.reader in
     let item = item_of c.in-Some.seen in
-    let written : buffer_of c.put-record.new.writer ≡ overwritten buffer place.at (record_bytes place.rows item) =
-    c.put-record.ensures.wrote.buffer ∙ ap (λ p. overwritten buffer p.at (record_bytes p.rows item)) c.loop-seen.invariant.1 in (
+    let written : buffer_of c.put_record.new.writer ≡ overwritten buffer place.at (record_bytes place.rows item) =
+    c.put_record.ensures.wrote.buffer ∙ ap (λ p. overwritten buffer p.at (record_bytes p.rows item)) c.loop-seen.invariant.1 in (
       c.next.ensures.input ∙ c.loop-seen.invariant.0,
-      c.put-record.ensures.wrote.place ∙ ap (λ p. behind p item) c.loop-seen.invariant.1 ∙ sym (behind_seen here),
-      c.put-record.ensures.same ∙ c.loop-seen.invariant.2,
-      subst (Copied input old (buffer_of c.put-record.new.writer)) (sym (behind_seen here))
-          (copied_more input old buffer place c.loop-seen.invariant.3 item (seen_at here) (buffer_of c.put-record.new.writer) written),
+      c.put_record.ensures.wrote.place ∙ ap (λ p. behind p item) c.loop-seen.invariant.1 ∙ sym (behind_seen here),
+      c.put_record.ensures.same ∙ c.loop-seen.invariant.2,
+      subst (Copied input old (buffer_of c.put_record.new.writer)) (sym (behind_seen here))
+          (copied_more input old buffer place c.loop-seen.invariant.3 item (seen_at here) (buffer_of c.put_record.new.writer) written),
     )
 
 pub returns : goal.returns
@@ -90,7 +90,7 @@ returns c =
     let same : old ≡ c.args.output.now = c.new-writer.ensures.buffer in
     let all : buffer_of c.loop-seen.writer ≡ copied_over input c.args.output.now =
     copied_all input old (buffer_of c.loop-seen.writer) place c.loop-seen.invariant.3
-    (ap (λ o. answer_of (Ok o)) (sym c.in-default.is) ∙ c.in-ok-seen.ensures.answer ∙ ap (λ bs. read_at bs place) c.loop-seen.invariant.0)
+    (ap (λ o. answer_of (Ok o)) (sym c.in_default.is) ∙ c.in_ok-seen.ensures.answer ∙ ap (λ bs. read_at bs place) c.loop-seen.invariant.0)
     ∙ ap (copied_over input) same in
     let name = sym (c.loop-seen.invariant.2 ∙ c.new-writer.ensures.same) in
     record { answer = refl; output = search rules }

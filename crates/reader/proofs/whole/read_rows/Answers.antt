@@ -14,23 +14,23 @@ loop-seen-init c = (
   subst₂ (λ p rows. Collecting c.args.input.now p rows) (sym c.new-reader.ensures.place) (sym c.new-rows.ensures.rows) (collect_none c.args.input.now),
 )
 
-pub returns-in-err-seen : goal.returns-in-err-seen
-returns-in-err-seen c =
-    let p = err_from_is_err_and c.from-residual.result c.from-residual.ensures.1 in
+pub returns-in_err-seen : goal.returns-in_err-seen
+returns-in_err-seen c =
+    let p = err_from_is_err_and c.from_residual.result c.from_residual.ensures.1 in
     let place = place_of c.loop-seen.reader in
     rw (p.1, p.2)
     (collect_fault c.args.input.now place (rows_of c.loop-seen.rows) c.loop-seen.invariant.2 _
-    (c.in-err-seen.ensures.answer ∙ ap (λ bs. read_at bs place) c.loop-seen.invariant.0))
+    (c.in_err-seen.ensures.answer ∙ ap (λ bs. read_at bs place) c.loop-seen.invariant.0))
 
 pub loop-seen-preserved : goal.loop-seen-preserved
 loop-seen-preserved c =
     let input = c.args.input.now in
     let place = place_of c.loop-seen.reader in
     let item = item_of c.in-Some.seen in
-    let is : answer_of (Ok c.in-ok-seen.field-0) ≡ Ok (Some item) = ap (λ o. answer_of (Ok o)) c.in-Some.is in
+    let is : answer_of (Ok c.in_ok-seen.field-0) ≡ Ok (Some item) = ap (λ o. answer_of (Ok o)) c.in-Some.is in
     let answer : Ok (Some item) ≡ read_at input place =
-    sym is ∙ c.in-ok-seen.ensures.answer ∙ ap (λ bs. read_at bs place) c.loop-seen.invariant.0 in
-    let after : place_of c.next.new.self ≡ behind place item = c.in-ok-seen.ensures.place ∙ ap (place_after place) is in
+    sym is ∙ c.in_ok-seen.ensures.answer ∙ ap (λ bs. read_at bs place) c.loop-seen.invariant.0 in
+    let after : place_of c.next.new.self ≡ behind place item = c.in_ok-seen.ensures.place ∙ ap (place_after place) is in
     let same : input_of c.next.new.self ≡ input = c.next.ensures.input ∙ c.loop-seen.invariant.0 in
     let within : place.at + size_of item ≤ length input = omega (arith, ap (λ p. p.at) after, ap length same, c.next.new.self.within) in (
       same,
@@ -43,4 +43,4 @@ pub returns : goal.returns
 returns c =
     let place = place_of c.loop-seen.reader in
     collect_all c.args.input.now place (rows_of c.loop-seen.rows) c.loop-seen.invariant.2
-    (ap (λ o. answer_of (Ok o)) (sym c.in-default.is) ∙ c.in-ok-seen.ensures.answer ∙ ap (λ bs. read_at bs place) c.loop-seen.invariant.0)
+    (ap (λ o. answer_of (Ok o)) (sym c.in_default.is) ∙ c.in_ok-seen.ensures.answer ∙ ap (λ bs. read_at bs place) c.loop-seen.invariant.0)

@@ -9,5 +9,5 @@ use Rattle.writer.proofs.pack.emit.Goals as goal
 pub returns : goal.returns
 returns c =
     let item = item_of c.args.piece.now in
-    emitted c.args.buffer.now c.pack-record.new.bytes (record_bytes c.args.rows item) c.args.at (size_of item)
-    (omega arith) (record_long c.args.rows item) c.pack-record.ensures
+    emitted c.args.buffer.now c.pack_record.new.bytes (record_bytes c.args.rows item) c.args.at (size_of item)
+    (omega arith) (record_long c.args.rows item) c.pack_record.ensures

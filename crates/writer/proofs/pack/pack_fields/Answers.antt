@@ -6,10 +6,10 @@ use Rattle.writer.proofs.Filling.{fill_none, fill_more, fill_within, fill_all}
 use Rattle.writer.proofs.pack.pack_fields.Goals as goal
 
 pub loop-field-init : goal.loop-field-init
-loop-field-init c = fill_none c.args.bytes.now c.args.fields.now (λ k. (c.type-inv.bytes k).fits)
+loop-field-init c = fill_none c.args.bytes.now c.args.fields.now (λ k. (c.type_inv.bytes k).fits)
 
-pub overflow-add-offset : goal.overflow-add-offset
-overflow-add-offset c =
+pub overflow_add-offset : goal.overflow_add-offset
+overflow_add-offset c =
     let bits = fill_within c.args.bytes.now c.loop-field.bytes c.args.fields.now c.loop-field.field-index c.loop-field.offset (0, 0) (omega arith) c.loop-field.invariant in
     omega arith
 
@@ -21,9 +21,9 @@ loop-field-preserved c =
     let o = c.loop-field.offset in
     let sized = All-get_or FieldFits fields i (0, 0) (omega arith) c.requires.each in
     let bits = fill_within old c.loop-field.bytes fields i o (0, 0) (omega arith) c.loop-field.invariant in
-    let written = c.pack-field.ensures.answer ∙ and_from _ _ (le-leb _ _ sized.1) (and_from _ _ (le-leb _ _ (omega arith)) (lt-ltb _ _ sized.2)) in
-    fill_more old c.loop-field.bytes c.pack-field.new.bytes fields i o (0, 0) (omega arith) c.loop-field.invariant
-    (c.pack-field.ensures.packed written) (λ k. (c.type-inv.bytes k).fits)
+    let written = c.pack_field.ensures.answer ∙ and_from _ _ (le-leb _ _ sized.1) (and_from _ _ (le-leb _ _ (omega arith)) (lt-ltb _ _ sized.2)) in
+    fill_more old c.loop-field.bytes c.pack_field.new.bytes fields i o (0, 0) (omega arith) c.loop-field.invariant
+    (c.pack_field.ensures.packed written) (λ k. (c.type_inv.bytes k).fits)
 
 pub returns : goal.returns
 returns c =

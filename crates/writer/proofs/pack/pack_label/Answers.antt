@@ -4,4 +4,4 @@ use Rattle.writer.proofs.pack.pack_label.Goals as goal
 
 pub returns : goal.returns
 returns c =
-    labelled c.args.bytes.now c.args.label.now c.copy-from-slice.new.self _ (omega arith) c.copy-from-slice.ensures.after
+    labelled c.args.bytes.now c.args.label.now c.copy_from_slice.new.self _ (omega arith) c.copy_from_slice.ensures.after
