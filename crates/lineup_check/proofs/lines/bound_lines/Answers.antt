@@ -9,10 +9,10 @@ loop-place-preserved c =
     let i = c.loop-place.place in
     let rows = rows_of c.args.plan.now in
     let bounds = bounds_of c.args.plan.now in (
-      c.push-place.ensures.bytes
+      c.push_place.ensures.bytes
           ∙ ap (λ t. t ++ line_at i c.row.result c.bounds.result) c.loop-place.invariant.0
           ∙ ap (λ r. lines_to i rows bounds ++ line_at i r c.bounds.result) c.row.ensures
           ∙ ap (λ b. lines_to i rows bounds ++ line_at i (slice_get rows i) b) c.bounds.ensures
           ∙ ap (λ n. lines_to n rows bounds) (sym (add-one i)),
-      omega (arith, c.push-place.ensures.len, c.loop-place.invariant.1),
+      omega (arith, c.push_place.ensures.len, c.loop-place.invariant.1),
     )

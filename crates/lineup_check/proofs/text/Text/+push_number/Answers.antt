@@ -19,18 +19,18 @@ returns-then-n-lt10 t c =
       len = omega (arith, c.push.ensures.len, ap length (decimal_digit c.args.n (omega arith)));
     }
 
-pub push-number-requires : goal.push-number-requires
-push-number-requires t c = omega (arith, longer c.args.n (omega arith) (omega arith))
+pub push_number-requires : goal.push_number-requires
+push_number-requires t c = omega (arith, longer c.args.n (omega arith) (omega arith))
 
 pub push-requires-2 : goal.push-requires-2
-push-requires-2 t c = omega (arith, longer c.args.n (omega arith) (omega arith), c.push-number.ensures.len)
+push-requires-2 t c = omega (arith, longer c.args.n (omega arith) (omega arith), c.push_number.ensures.len)
 
 pub returns : goal.returns
 returns t c =
     let n = c.args.n in
     record {
       bytes =
-          appended (text_of c.args.self.now) (decimal (n / 10)) ((48 + n % 10) ∷ []) c.push-2.ensures.bytes c.push-number.ensures.bytes
+          appended (text_of c.args.self.now) (decimal (n / 10)) ((48 + n % 10) ∷ []) c.push-2.ensures.bytes c.push_number.ensures.bytes
           (sym (decimal_step n (omega arith) (omega arith)));
-      len = omega (arith, longer n (omega arith) (omega arith), c.push-number.ensures.len, c.push-2.ensures.len);
+      len = omega (arith, longer n (omega arith) (omega arith), c.push_number.ensures.len, c.push-2.ensures.len);
     }

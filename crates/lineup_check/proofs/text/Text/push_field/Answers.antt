@@ -6,6 +6,6 @@ use Rattle.lineup_check.proofs.text.Text.push_field.Goals as goal
 pub returns : goal.returns
 returns c =
     record {
-      bytes = appended (text_of c.args.self.now) (0x20 ∷ []) (decimal c.args.n) c.push-number.ensures.bytes c.push.ensures.bytes refl;
-      len = omega (arith, c.push.ensures.len, c.push-number.ensures.len);
+      bytes = appended (text_of c.args.self.now) (0x20 ∷ []) (decimal c.args.n) c.push_number.ensures.bytes c.push.ensures.bytes refl;
+      len = omega (arith, c.push.ensures.len, c.push_number.ensures.len);
     }

@@ -5,14 +5,14 @@ use Rattle.lineup_check.proofs.Appended.{appended}
 use Rattle.lineup_check.proofs.Lengths.{narrow_number, short_letter}
 use Rattle.lineup_check.proofs.text.Text.push_head.Goals as goal
 
-pub push-number-requires : goal.push-number-requires
-push-number-requires c = omega (arith, narrow_number c.from.result (omega arith))
+pub push_number-requires : goal.push_number-requires
+push_number-requires c = omega (arith, narrow_number c.from.result (omega arith))
 
-pub push-word-requires : goal.push-word-requires
-push-word-requires c =
+pub push_word-requires : goal.push_word-requires
+push_word-requires c =
     omega (
       arith,
-      c.push-number.ensures.len,
+      c.push_number.ensures.len,
       narrow_number c.from.result (omega arith),
       ap length c.letter.ensures,
       short_letter c.args.row.now,
@@ -22,13 +22,13 @@ pub returns : goal.returns
 returns c =
     record {
       bytes =
-          appended (text_of c.args.self.now) (decimal c.from.result) (spaced c.letter.result.now) c.push-word.ensures.bytes c.push-number.ensures.bytes
+          appended (text_of c.args.self.now) (decimal c.from.result) (spaced c.letter.result.now) c.push_word.ensures.bytes c.push_number.ensures.bytes
           (ap (λ n. decimal n ++ spaced c.letter.result.now) c.from.ensures ∙ ap (λ l. decimal c.args.place ++ spaced l) c.letter.ensures);
       len =
           omega (
             arith,
-            c.push-number.ensures.len,
-            c.push-word.ensures.len,
+            c.push_number.ensures.len,
+            c.push_word.ensures.len,
             narrow_number c.from.result (omega arith),
             ap length c.letter.ensures,
             short_letter c.args.row.now,

@@ -10,7 +10,7 @@ returns-in-Some c =
     let bounds = c.in-Some.bounds in
     record {
       bytes =
-          appended before (spaced (decimal bounds.mixed)) (spaced (decimal bounds.long)) c.push-bound-in-Some.ensures.bytes c.push-bound.ensures.bytes refl
+          appended before (spaced (decimal bounds.mixed)) (spaced (decimal bounds.long)) c.push_bound-in-Some.ensures.bytes c.push_bound.ensures.bytes refl
           ∙ ap (λ l. before ++ late_fields l) (sym c.in-Some.is);
-      len = omega (arith, c.push-bound.ensures.len, c.push-bound-in-Some.ensures.len);
+      len = omega (arith, c.push_bound.ensures.len, c.push_bound-in-Some.ensures.len);
     }

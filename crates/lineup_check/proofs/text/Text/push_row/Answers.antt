@@ -10,9 +10,9 @@ returns c =
     let head = head_of c.args.place c.args.row.now in
     let normal = spaced (decimal c.args.bounds.now.normal) in
     let late = late_fields c.args.bounds.now.late in
-    let three = appended before head normal c.push-bound.ensures.bytes c.push-head.ensures.bytes refl in
-    let four = appended before (head ++ normal) late c.push-late.ensures.bytes three refl in
+    let three = appended before head normal c.push_bound.ensures.bytes c.push_head.ensures.bytes refl in
+    let four = appended before (head ++ normal) late c.push_late.ensures.bytes three refl in
     record {
       bytes = appended before (head ++ normal ++ late) line_end c.push.ensures.bytes four refl;
-      len = omega (arith, c.push-head.ensures.len, c.push-bound.ensures.len, c.push-late.ensures.len, c.push.ensures.len);
+      len = omega (arith, c.push_head.ensures.len, c.push_bound.ensures.len, c.push_late.ensures.len, c.push.ensures.len);
     }
