@@ -1,10 +1,8 @@
 // What a session keeps. Only this crate can touch it, so every session that exists keeps its limits.
 ghost use Rattle.std.specs.Prelude.{◌≡◌, ℕ, ◌<◌, ◌≤◌, true, length, is_some, None, slice_index_or};
 
-use board::Board;
 use judge::Plan;
 use law::{Job, TurnNumbers};
-use pool::Pool;
 use row::Kind;
 
 // The clock at which a session ends: arrive and begin are then refused, so that no sum with a period overflows.
@@ -14,7 +12,7 @@ pub(crate) const LAST_CLOCK: u32 = 4_000_000_000;
 pub(crate) const PLACES: u32 = 32;
 
 // A plan being run. Row r's unended job is in `jobs[r]`, and the clock from which r may arrive again is in `ready[r]`.
-pub struct Session<'p, B: Board, P: Pool> {
+pub struct Session<'p, B, P> {
     pub(crate) plan: &'p Plan,
     pub(crate) board: B,
     pub(crate) pool: P,

@@ -5,8 +5,14 @@ use Rattle.law.proofs.Represents.{same_state}
 use Rattle.session.proofs.Tables.{all_same}
 use Rattle.session.proofs.session.Session.open.Goals as goal
 
-pub invariant-of-result : goal.invariant-of-result
-invariant-of-result g c = (refl, (refl, ((λ r _. all_same 32 None r), (lit≤ tt, ((λ _. lit< tt), tt)))))
+pub invariant_of-result : goal.invariant_of-result
+invariant_of-result g c = record {
+  jobs_places = refl;
+  ready_places = refl;
+  in_plan = λ r _. all_same 32 None r;
+  in_time = lit≤ tt;
+  turn_in_time = λ _. lit< tt;
+}
 
 pub returns : goal.returns
 returns g c = record {

@@ -24,8 +24,8 @@ returns g c =
     let answer = Done c.work-outcome.result in
     let done = c.work-outcome.ensures.worked in
     let rule : Allowed free s call answer
-    = subst (Answers (rows_in s) s.number (view free s) call answer) c.in-default.ensures (ap Done c.work-outcome.ensures.outcome) in
-    let next = λ (tied : Tied g.B.Board.rows s). worked_next g.B.Board.rows free s _ c.args.turn c.args.finished _ done (c.mode-after-self.ensures (done.tied tied)) in
+    = subst (Answers (rows_in s) s.number (view free s) call answer) c.in_default.ensures (ap Done c.work-outcome.ensures.outcome) in
+    let next = λ (tied : Tied g.B.Board.rows s). worked_next g.B.Board.rows free s _ c.args.turn c.args.finished _ done (c.mode_after-self.ensures (done.tied tied)) in
     record {
       rule = rule;
       next = next;
