@@ -1,5 +1,5 @@
 -- Writing one record behind the last. Assumes nothing.
-use Rattle.std.specs.Prelude.{◌≡◌, ℕ, ◌+◌, Bool, true, cond, not, ◌&&◌, List, length, Ok, Err, Result, nat_le, nat_lt}
+use Rattle.std.specs.Prelude.{◌≡◌, ℕ, ◌+◌, Bool, true, cond, ◌&&◌, List, length, Ok, Err, Result, nat_le, nat_lt}
 use Rattle.row.specs.Rows.{keeps}
 use Rattle.row.specs.declared.faults.Refusal.{Refusal}
 use Rattle.row.specs.declared.faults.Refusal.TheVariants.{BadLabel, TooManyRows, WrongCount, AfterEnd, NoRoom}

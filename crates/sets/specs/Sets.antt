@@ -1,5 +1,5 @@
 -- A set of the numbers below n: the list of length n that says of each number whether it is a member. Assumes nothing.
-use Rattle.std.specs.Prelude.{◌≡◌, ℕ, suc, ◌<◌, Bool, true, false, cond, not, ◌&&◌, List, [], ◌∷◌, length, set, replicate, Some, None, Option, nat_lt, slice_index_or, slice_set}
+use Rattle.std.specs.Prelude.{◌≡◌, ℕ, suc, ◌<◌, Bool, true, false, cond, not, ◌&&◌, List, [], ◌∷◌, length, replicate, Some, None, Option, nat_lt, slice_index_or, slice_set}
 
 -- no number below n
 unfoldable pub empty : ℕ → List Bool

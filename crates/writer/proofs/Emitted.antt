@@ -3,7 +3,6 @@ use Rattle.std.proofs.Common.{◌≡◌, ℕ, ◌+◌, ◌-◌, ◌≤◌, List,
 use borrow.Rule.Slice.PartMut.{put_mid}
 use Rattle.std.proofs.lemmas.List.{take_rest, drop-drop, drop_all, length-drop}
 use Rattle.format.specs.Encoding.{overwritten}
-use Rattle.format.specs.Records.{label}
 
 -- one byte, and a label behind it
 pub labelled : (bs text copied : List ℕ) (b : ℕ) → 1 ≤ length bs → copied ≡ text
