@@ -19,7 +19,7 @@ use Rattle.law.specs.declared.calls.Step.TheVariants.{Given, ReportOpen}
 use Rattle.law.specs.declared.calls.TurnNumbers.{TurnNumbers}
 use Rattle.law.specs.declared.calls.Work.{Work}
 use Rattle.law.specs.Checks.{Check, fault_of, first_fault, checks, count, same_work, same_turn, is_open}
-use Rattle.law.specs.History.{History, state_at, job_at, open_turn_at, made, logged}
+use Rattle.law.specs.History.{History, state_at, job_at, open_turn_at, made, logged_steps}
 use Rattle.law.specs.Rules.{Rules, Answers, Accepts, Lawful, WorkDue}
 use Rattle.law.specs.State.{State, Change, change}
 use Rattle.law.proofs.Basics.{some_is_none}
@@ -180,10 +180,10 @@ module _ (rows : List Row) (number : ℕ) where
     -- every lawful history of these steps has these outlines and answers
     module _ (free₀ : List Bool) (many : length rows ≤ count free₀) (log : List Answer) where
       abbrev LawfulTo : ℕ → Type 0
-      LawfulTo n = Lawful rows number free₀ (logged steps log n)
+      LawfulTo n = Lawful rows number free₀ (logged_steps steps log n)
 
       abbrev Outlined : ℕ → Type 0
-      Outlined n = outline (state_at rows free₀ (logged steps log n)) ≡ outline_at n
+      Outlined n = outline (state_at rows free₀ (logged_steps steps log n)) ≡ outline_at n
 
       -- what came before in a lawful history is lawful
       earlier : (m n : ℕ) → n ≤ m → LawfulTo m → LawfulTo n
@@ -196,7 +196,7 @@ module _ (rows : List Row) (number : ℕ) where
 
       one_more : (n : ℕ) → Outlined n → runs_at n ≡ true → LawfulTo (suc n) → Outlined (suc n) × (without_block (get_or log n (Done Idle)) ≡ answer_at n)
       one_more n same e l =
-          let h = logged steps log n in
+          let h = logged_steps steps log n in
           let s = state_at rows free₀ h in
           let a = get_or log n (Done Idle) in
           let p = follows free₀ many h l.0 (step_at n) a l.1 (subst (λ s. runs s (step_at n) ≡ true) (sym same) e) in (

@@ -11,7 +11,7 @@ use Rattle.law.specs.declared.calls.Outcome.TheVariants.{Idle}
 use Rattle.law.specs.declared.calls.Step.{Step}
 use Rattle.law.specs.declared.calls.Step.TheVariants.{Given}
 use Rattle.law.specs.Checks.{first_fault, checks}
-use Rattle.law.specs.History.{state_at, open_turn_at, made, logged}
+use Rattle.law.specs.History.{state_at, open_turn_at, made, logged_steps}
 use Rattle.law.specs.Rules.{Rules, Answers, Accepts, Lawful, outcome}
 use Rattle.law.specs.State.{State}
 use Rattle.law.proofs.Basics.{none_of, some_of}
@@ -80,10 +80,10 @@ module _ (rows : List Row) (number : ℕ) where
   -- a log of such answers makes a lawful history
   module _ (free₀ : List Bool) (steps : List Step) (log : List Answer) where
     abbrev state_after : ℕ → State
-    state_after n = state_at rows free₀ (logged steps log n)
+    state_after n = state_at rows free₀ (logged_steps steps log n)
 
     abbrev call_at : ℕ → Call
-    call_at n = made (open_turn_at (logged steps log n)) (get_or steps n (Given Begin))
+    call_at n = made (open_turn_at (logged_steps steps log n)) (get_or steps n (Given Begin))
 
     abbrev pub accepted_at : ℕ → Bool
     accepted_at n = accepted rows (state_after n) (call_at n)
@@ -91,7 +91,7 @@ module _ (rows : List Row) (number : ℕ) where
     abbrev pub reply_at : ℕ → Answer
     reply_at n = reply (state_after n) (call_at n)
 
-    pub lawful : (n : ℕ) → ((i : ℕ) → i < n → accepted_at i ≡ true) → ((i : ℕ) → i < n → reply_at i ≡ get_or log i (Done Idle)) → Lawful rows number free₀ (logged steps log n)
+    pub lawful : (n : ℕ) → ((i : ℕ) → i < n → accepted_at i ≡ true) → ((i : ℕ) → i < n → reply_at i ≡ get_or log i (Done Idle)) → Lawful rows number free₀ (logged_steps steps log n)
     lawful zero accepts replies = tt
     lawful (suc n) accepts replies = (
       lawful n (λ i l. accepts i (omega arith)) (λ i l. replies i (omega arith)),

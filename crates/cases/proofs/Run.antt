@@ -9,7 +9,7 @@ use Rattle.law.specs.declared.calls.Job.{Job}
 use Rattle.law.specs.declared.calls.Outcome.{Outcome}
 use Rattle.law.specs.declared.calls.Outcome.TheVariants.{Idle}
 use Rattle.law.specs.Checks.{count}
-use Rattle.law.specs.History.{History, change_of, logged, state_at, job_at, free_at}
+use Rattle.law.specs.History.{History, change_of, logged_steps, state_at, job_at, free_at}
 use Rattle.law.specs.Rules.{Lawful}
 use Rattle.law.specs.State.{Change, admits, opens, reports, nothing, quiet_below, free_after, with_block, back_from}
 use Rattle.law.proofs.Basics.{some_is_none}
@@ -89,7 +89,7 @@ every_run_lem number free₀ log three l = record {
   at_fifteen = ap (λ s. s.clock) (at 34 (omega arith));
   normal = ap (λ s. s.mode) (at 34 (omega arith));
   ended = ended;
-  all_back = all_back_lem worked number free₀ (logged calls log 34) l ended;
+  all_back = all_back_lem worked number free₀ (logged_steps calls log 34) l ended;
 }
   where
     many : length worked ≤ count free₀
@@ -101,14 +101,14 @@ every_run_lem number free₀ log three l = record {
     answered : (i : ℕ) → i < 34 → without_block (get_or log i (Done Idle)) ≡ answer_at worked number calls i
     answered = is_answer worked number calls free₀ many log 34 runs l
 
-    at : (n : ℕ) → n ≤ 34 → outline (state_at worked free₀ (logged calls log n)) ≡ outline_at worked number calls n
+    at : (n : ℕ) → n ≤ 34 → outline (state_at worked free₀ (logged_steps calls log n)) ≡ outline_at worked number calls n
     at = is_outline worked number calls free₀ many log 34 runs l
 
-    quiet : quiet_below (length worked) (job_at worked (logged calls log 34)) ≡ true
+    quiet : quiet_below (length worked) (job_at worked (logged_steps calls log 34)) ≡ true
     quiet = quiet_same 3 _ (outline_at worked number calls 34).job (λ r. sym (is_job _) ∙ ap (λ s. is_some (s.job r)) (at 34 (omega arith)))
 
-    ended : (r : ℕ) → job_at worked (logged calls log 34) r ≡ None
-    ended = quiet_everywhere worked (logged calls log 34) (orderly worked number free₀ (logged calls log 34) l) quiet
+    ended : (r : ℕ) → job_at worked (logged_steps calls log 34) r ≡ None
+    ended = quiet_everywhere worked (logged_steps calls log 34) (orderly worked number free₀ (logged_steps calls log 34) l) quiet
 
 pub some-run : SomeRun
 some-run = lawful worked 7 blocks calls log 34 (all_below_lem (accepted_at worked 7 blocks calls log) 34 refl) (λ i. get_d_table (reply_at worked 7 blocks calls log) 34 i (Done Idle))

@@ -11,7 +11,7 @@ use Rattle.law.specs.declared.calls.Step.TheVariants.{Given, ReportOpen}
 use Rattle.law.specs.declared.calls.TurnNumbers.{TurnNumbers}
 use Rattle.law.specs.declared.calls.Work.{Work}
 use Rattle.law.specs.Checks.{count}
-use Rattle.law.specs.History.{logged, clock_at, mode_at, job_at, free_at}
+use Rattle.law.specs.History.{logged_steps, clock_at, mode_at, job_at, free_at}
 use Rattle.law.specs.Rules.{Lawful}
 use Rattle.cases.specs.LineUps.{worked}
 
@@ -58,23 +58,23 @@ pub record CutAtBound (number : ℕ) (free₀ : List Bool) (log : List Answer) :
   -- every call is answered so: no arrival is refused, and each tick has its row and its outcome
   pub answered : (i : ℕ) → i < 34 → without_block (slice_index_or log i (Done Idle)) ≡ slice_index_or (answers number 0 0 0 0) i (Done Idle)
   -- row 0 arrives again at clock 10
-  pub at_ten : clock_at (logged calls log 23) ≡ 10
+  pub at_ten : clock_at (logged_steps calls log 23) ≡ 10
   -- at clock 14 the mode is abnormal, and the job of row 2 that arrived at clock 0 is unended
-  pub at_fourteen : clock_at (logged calls log 33) ≡ 14
-  pub abnormal : mode_at worked (logged calls log 33) ≡ Abnormal
-  pub unended : (b : ℕ) × (job_at worked (logged calls log 33) 2 ≡ Some (record { kind = Abnormal; arrival = 0; block = b; ticks = 4 }))
+  pub at_fourteen : clock_at (logged_steps calls log 33) ≡ 14
+  pub abnormal : mode_at worked (logged_steps calls log 33) ≡ Abnormal
+  pub unended : (b : ℕ) × (job_at worked (logged_steps calls log 33) 2 ≡ Some (record { kind = Abnormal; arrival = 0; block = b; ticks = 4 }))
   -- the report that makes the clock 15 cuts it, and the mode is normal again
   pub cut : get_or log 33 (Done Idle) ≡ Done Cut
-  pub at_fifteen : clock_at (logged calls log 34) ≡ 15
-  pub normal : mode_at worked (logged calls log 34) ≡ Normal
+  pub at_fifteen : clock_at (logged_steps calls log 34) ≡ 15
+  pub normal : mode_at worked (logged_steps calls log 34) ≡ Normal
   -- then no job is unended, and the free blocks are those at opening
-  pub ended : (r : ℕ) → job_at worked (logged calls log 34) r ≡ None
-  pub all_back : free_at worked free₀ (logged calls log 34) ≡ free₀
+  pub ended : (r : ℕ) → job_at worked (logged_steps calls log 34) r ≡ None
+  pub all_back : free_at worked free₀ (logged_steps calls log 34) ≡ free₀
 
 -- every lawful history of these calls comes to that, whichever 3 blocks are free at opening and whichever of them the arrivals get
 abbrev pub EveryRun : Type 0
-EveryRun = (number : ℕ) (free₀ : List Bool) (log : List Answer) → count free₀ ≡ 3 → Lawful worked number free₀ (logged calls log 34) → CutAtBound number free₀ log
+EveryRun = (number : ℕ) (free₀ : List Bool) (log : List Answer) → count free₀ ≡ 3 → Lawful worked number free₀ (logged_steps calls log 34) → CutAtBound number free₀ log
 
 -- and there is such a run: session 7, over a pool of blocks 0 to 2
 abbrev pub SomeRun : Type 0
-SomeRun = Lawful worked 7 (true ∷ true ∷ true ∷ []) (logged calls (answers 7 0 1 2 0) 34)
+SomeRun = Lawful worked 7 (true ∷ true ∷ true ∷ []) (logged_steps calls (answers 7 0 1 2 0) 34)

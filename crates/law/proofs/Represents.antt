@@ -10,7 +10,7 @@ use Rattle.law.specs.declared.calls.Call.TheVariants.{Begin}
 use Rattle.law.specs.declared.calls.Outcome.TheVariants.{Idle}
 use Rattle.law.specs.declared.calls.Step.{Step}
 use Rattle.law.specs.declared.calls.Step.TheVariants.{Given}
-use Rattle.law.specs.History.{History, state_at, open_turn_at, made, logged}
+use Rattle.law.specs.History.{History, state_at, open_turn_at, made, logged, logged_steps}
 use Rattle.law.specs.Represents.{Represents}
 use Rattle.law.specs.Rules.{Rules}
 use Rattle.law.specs.State.{State, after, change}
@@ -35,19 +35,34 @@ same_state s t clock mode job ready open_turn free =
     λ i. record { clock = clock i; mode = mode i; job = λ r. job r i; ready = λ r. ready r i; open_turn = open_turn i; free = free i }
 
 -- the log at place i is not part of what came before
-logged-kept : (steps : List Step) (log : List Answer) (i : ℕ) (a : Answer) (n : ℕ) → n ≤ i → logged steps (set log i a) n ≡ logged steps log n
-logged-kept steps log i a zero l = refl
-logged-kept steps log i a (suc n) l =
+logged-kept : (calls : List Call) (log : List Answer) (i : ℕ) (a : Answer) (n : ℕ) → n ≤ i → logged calls (set log i a) n ≡ logged calls log n
+logged-kept calls log i a zero l = refl
+logged-kept calls log i a (suc n) l =
     let same : get_or (set log i a) n (Done Idle) ≡ get_or log n (Done Idle) = get_or-set_other log i n a (Done Idle) (λ e. omega arith) in
-    let rest = logged-kept steps log i a n (omega arith) in
-    λ z. record { call = made (open_turn_at (rest z)) (get_or steps n (Given Begin)); answer = same z } ∷ rest z
+    let rest = logged-kept calls log i a n (omega arith) in
+    λ z. record { call = get_or calls n Begin; answer = same z } ∷ rest z
 
 -- an answer written to place i of the log is the newest of the history
-pub logged_more : (steps : List Step) (log : List Answer) (i : ℕ) (a : Answer) → i < length log
-    → logged steps (set log i a) (i + 1) ≡ record { call = made (open_turn_at (logged steps log i)) (get_or steps i (Given Begin)); answer = a } ∷ logged steps log i
-logged_more steps log i a l =
+pub logged_more : (calls : List Call) (log : List Answer) (i : ℕ) (a : Answer) → i < length log
+    → logged calls (set log i a) (i + 1) ≡ record { call = get_or calls i Begin; answer = a } ∷ logged calls log i
+logged_more calls log i a l =
     let new : get_or (set log i a) i (Done Idle) ≡ a = get_or-set_same log i a (Done Idle) l in
-    let rest = logged-kept steps log i a i (omega arith) in
+    let rest = logged-kept calls log i a i (omega arith) in
+    rw add-one (λ z. record { call = get_or calls i Begin; answer = new z } ∷ rest z)
+
+-- the same for a list of steps
+logged_steps_kept : (steps : List Step) (log : List Answer) (i : ℕ) (a : Answer) (n : ℕ) → n ≤ i → logged_steps steps (set log i a) n ≡ logged_steps steps log n
+logged_steps_kept steps log i a zero l = refl
+logged_steps_kept steps log i a (suc n) l =
+    let same : get_or (set log i a) n (Done Idle) ≡ get_or log n (Done Idle) = get_or-set_other log i n a (Done Idle) (λ e. omega arith) in
+    let rest = logged_steps_kept steps log i a n (omega arith) in
+    λ z. record { call = made (open_turn_at (rest z)) (get_or steps n (Given Begin)); answer = same z } ∷ rest z
+
+pub logged_steps_more : (steps : List Step) (log : List Answer) (i : ℕ) (a : Answer) → i < length log
+    → logged_steps steps (set log i a) (i + 1) ≡ record { call = made (open_turn_at (logged_steps steps log i)) (get_or steps i (Given Begin)); answer = a } ∷ logged_steps steps log i
+logged_steps_more steps log i a l =
+    let new : get_or (set log i a) i (Done Idle) ≡ a = get_or-set_same log i a (Done Idle) l in
+    let rest = logged_steps_kept steps log i a i (omega arith) in
     rw add-one (λ z. record { call = made (open_turn_at (rest z)) (get_or steps i (Given Begin)); answer = new z } ∷ rest z)
 
 -- a table changed at place i, as the state has it: what f makes of the entry there, and the others as they were

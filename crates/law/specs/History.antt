@@ -74,6 +74,11 @@ abbrev pub disturbed : History → ℕ → Bool
 disturbed [] r = false
 disturbed (e ∷ h) r = disturbed_after (change_of e) r (disturbed h r)
 
+-- the history of the first n of a list of calls, whose answers were written to a log
+abbrev pub logged : List Call → List Answer → ℕ → History
+logged calls log zero = []
+logged calls log (suc n) = record { call = slice_index_or calls n Begin; answer = slice_index_or log n (Done Idle) } ∷ logged calls log n
+
 -- The call that a step comes to when this turn is open. Where none is, a report of the open turn has only an idle
 -- turn to bring, which is refused like any other.
 abbrev pub no_turn : TurnNumbers
@@ -85,8 +90,8 @@ made (Some t) (ReportOpen finished) = Report t finished
 made None (ReportOpen finished) = Report no_turn finished
 
 -- the history of the first n of a list of steps, whose answers were written to a log
-abbrev pub logged : List Step → List Answer → ℕ → History
-logged steps log zero = []
-logged steps log (suc n) =
-    let before : History = logged steps log n in
+abbrev pub logged_steps : List Step → List Answer → ℕ → History
+logged_steps steps log zero = []
+logged_steps steps log (suc n) =
+    let before : History = logged_steps steps log n in
     record { call = made (open_turn_at before) (slice_index_or steps n (Given Begin)); answer = slice_index_or log n (Done Idle) } ∷ before

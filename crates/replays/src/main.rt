@@ -1,9 +1,7 @@
-// Replays one list of steps over both boards and both pools, and prints the answers side by side.
-#![tactic(auto)]
-
+// Replays one list of calls over both boards and both pools, and prints the answers side by side.
 use board::{Board, ChainBoard, WordBoard};
 use judge::{Plan, judge};
-use law::{Answer, Call, Outcome, Step, TurnNumbers, Work};
+use law::{Answer, Call, Outcome, TurnNumbers, Work};
 use pool::{BitmapPool, FreeListPool, Pool};
 use row::{Kind, RowNumbers};
 use session::{Session, SessionFault, replay};
@@ -34,33 +32,28 @@ const ROWS: [RowNumbers; 3] = [
     },
 ];
 
-fn arrive(row: u32, kind: Kind) -> Step {
-    Step::Given(Call::Arrive { row, kind })
+fn arrive(row: u32, kind: Kind) -> Call {
+    Call::Arrive { row, kind }
 }
 
-const BEGIN: Step = Step::Given(Call::Begin);
-
-// A report of the open turn, as unfinished.
-const REPORT_OPEN: Step = Step::ReportOpen { finished: false };
-
 // A report of the turn for this row and block at this clock.
-fn report(clock: u32, row: u32, block: u32, finished: bool) -> Step {
+fn report(clock: u32, row: u32, block: u32, finished: bool) -> Call {
     let turn = TurnNumbers {
         number: NUMBER,
         clock,
         work: Some(Work { row, block }),
     };
-    Step::Given(Call::Report { turn, finished })
+    Call::Report { turn, finished }
 }
 
 // A report of the idle turn at this clock.
-fn report_idle(clock: u32, finished: bool) -> Step {
+fn report_idle(clock: u32, finished: bool) -> Call {
     let turn = TurnNumbers {
         number: NUMBER,
         clock,
         work: None,
     };
-    Step::Given(Call::Report { turn, finished })
+    Call::Report { turn, finished }
 }
 
 fn print_answer(rt: &HostRuntime, answer: Answer) -> io::Result<()> {
@@ -86,19 +79,19 @@ fn print_answer(rt: &HostRuntime, answer: Answer) -> io::Result<()> {
     }
 }
 
-// Replays the steps over a board and a pool, and prints the answers on one line.
+// Replays the calls over a board and a pool, and prints the answers on one line.
 fn run<B: Board + Drop, P: Pool + Drop>(
     rt: &HostRuntime,
     name: &str,
     plan: &Plan,
     board: B,
     pool: P,
-    steps: &[Step],
+    calls: &[Call],
 ) -> io::Result<()> {
     let mut log = [Answer::Done(Outcome::Idle); MOST];
-    let _ = replay(plan, board, pool, NUMBER, steps, &mut log);
+    let _ = replay(plan, board, pool, NUMBER, calls, &mut log);
     print!(rt; "{name}:")?;
-    for answer in log.iter().take(steps.len()) {
+    for answer in log.iter().take(calls.len()) {
         print_answer(rt, *answer)?;
         print!(rt; ",")?;
     }
@@ -142,11 +135,14 @@ fn show_worked(rt: &HostRuntime, name: &str, outcomes: [Outcome; 15]) -> io::Res
     println!(rt; "")
 }
 
-// Calls of every kind on one block, refused ones among them: each refusal that a short session can meet.
-fn steps() -> [Step; 24] {
-    [
+fn main(rt: HostRuntime) -> io::Result<()> {
+    let mut plan = Plan::new();
+    if judge(&mut plan, &ROWS).is_err() {
+        return println!(rt; "the line-up is refused");
+    }
+    let calls = [
         arrive(2, Kind::Normal),
-        BEGIN,
+        Call::Begin,
         arrive(1, Kind::Normal),
         report(0, 1, 0, false),
         report(0, 2, 0, false),
@@ -155,36 +151,25 @@ fn steps() -> [Step; 24] {
         arrive(1, Kind::Normal),
         arrive(3, Kind::Normal),
         arrive(2, Kind::Normal),
-        BEGIN,
+        Call::Begin,
         report(1, 2, 0, true),
         arrive(0, Kind::Abnormal),
-        BEGIN,
+        Call::Begin,
         report(2, 0, 0, false),
         arrive(1, Kind::Normal),
-        BEGIN,
+        Call::Begin,
         report(3, 0, 0, true),
-        BEGIN,
+        Call::Begin,
         report_idle(4, true),
         report_idle(4, false),
-        BEGIN,
-        REPORT_OPEN,
-        REPORT_OPEN,
-    ]
-}
-
-fn main(rt: HostRuntime) -> io::Result<()> {
-    let mut plan = Plan::new();
-    if judge(&mut plan, &ROWS).is_err() {
-        return println!(rt; "the line-up is refused");
-    }
-    let steps = steps();
+    ];
     run(
         &rt,
         "word and bit map",
         &plan,
         WordBoard::new(),
         BitmapPool::new(1),
-        &steps,
+        &calls,
     )?;
     run(
         &rt,
@@ -192,7 +177,7 @@ fn main(rt: HostRuntime) -> io::Result<()> {
         &plan,
         WordBoard::new(),
         FreeListPool::new(1),
-        &steps,
+        &calls,
     )?;
     run(
         &rt,
@@ -200,7 +185,7 @@ fn main(rt: HostRuntime) -> io::Result<()> {
         &plan,
         ChainBoard::new(),
         BitmapPool::new(1),
-        &steps,
+        &calls,
     )?;
     run(
         &rt,
@@ -208,7 +193,7 @@ fn main(rt: HostRuntime) -> io::Result<()> {
         &plan,
         ChainBoard::new(),
         FreeListPool::new(1),
-        &steps,
+        &calls,
     )?;
     let outcomes = run_worked(&plan, WordBoard::new(), BitmapPool::new(3));
     show_worked(&rt, "word and bit map", outcomes)?;

@@ -8,9 +8,11 @@ mod opening;
 mod replaying;
 mod reporting;
 mod session;
+mod stepping;
 mod turn;
 
 pub use faults::SessionFault;
 pub use replaying::replay;
 pub use session::Session;
+pub use stepping::replay_steps;
 pub use turn::{NotReported, Turn};

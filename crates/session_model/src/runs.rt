@@ -10,7 +10,7 @@ use generator::Generator;
 use judge::Plan;
 use law::{Answer, Outcome, Step};
 use pool::Pool;
-use session::replay;
+use session::replay_steps;
 use std::alloc::{AllocError, Global};
 use std::io;
 
@@ -99,7 +99,7 @@ fn run<B: Board + Drop, P: Pool + Drop>(
     let heap = rt.alloc();
     let mut log = vec![in heap; Answer::Done(Outcome::Idle); steps.len()]?;
     let answers = log.as_mut_slice();
-    let (board, pool) = replay(setting.plan, board, pool, setting.number, steps, answers);
+    let (board, pool) = replay_steps(setting.plan, board, pool, setting.number, steps, answers);
     let mut model = new_model(heap, setting)?;
     count(&mut tally.sessions);
     if follow_all(rt, setting, tally, &mut model, steps, log.as_slice())? {

@@ -7,7 +7,7 @@ use law::{Answer, Outcome, Step};
 use pool::{BitmapPool, FreeListPool, Pool};
 use row::Fault;
 use script::{BoardName, Opening, PoolName};
-use session::replay;
+use session::replay_steps;
 use std::alloc::Global;
 use std::fmt::Write;
 use std::str::from_utf8;
@@ -72,7 +72,7 @@ fn make_calls<B: Board + Drop, P: Pool + Drop>(
     steps: &[Step],
     log: &mut [Answer],
 ) {
-    let _ = replay(plan, board, pool, number, steps, log);
+    let _ = replay_steps(plan, board, pool, number, steps, log);
 }
 
 // A line for each call, with the clock before it; and the trace of the session.

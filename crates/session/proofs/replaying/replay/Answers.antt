@@ -5,8 +5,7 @@ use Rattle.judge.specs.Plan.{rows_of}
 use Rattle.law.specs.declared.calls.Answer.TheVariants.{Done}
 use Rattle.law.specs.declared.calls.Outcome.TheVariants.{Idle}
 use Rattle.law.specs.declared.calls.Call.TheVariants.{Begin}
-use Rattle.law.specs.declared.calls.Step.TheVariants.{Given}
-use Rattle.law.specs.History.{logged, made, open_turn_at}
+use Rattle.law.specs.History.{logged}
 use Rattle.law.proofs.Represents.{logged_more}
 use Rattle.session.specs.Replays.{replayed}
 use Rattle.session.specs.View.{Follows}
@@ -15,21 +14,15 @@ use Rattle.session.proofs.replaying.replay.Goals as goal
 pub loop-i-preserved : goal.loop-i-preserved
 loop-i-preserved g c =
     let i = c.loop-i.i in
-    let steps = c.args.steps.now in
+    let calls = c.args.calls.now in
     let log = c.loop-i.log in
     let a = c.perform.result in
-    let before = logged steps log i in
-    let asked : i < length steps = omega arith in
-    let room : i < length log = omega arith in (
+    let called : i < length calls = omega arith in
+    let room : i < length log = omega arith in
+    let more = ap (λ x. record { call = x; answer = a } ∷ logged calls log i) (get_or_default calls i _ Begin called) ∙ sym (logged_more calls log i a room) in (
       (λ rows number free₀ f.
-          let so_far = c.loop-i.invariant.0 rows number free₀ f in
-          let turn : c.loop-i.session.turn ≡ open_turn_at before = ap (λ s. s.open_turn) so_far.history.told in
-          let call : c.called-call.result ≡ made (open_turn_at before) (get_or steps i (Given Begin))
-          = c.called-call.ensures ∙ ap (made c.loop-i.session.turn) (get_or_default steps i _ (Given Begin) asked)
-          ∙ ap (λ t. made t (get_or steps i (Given Begin))) turn in
-          let more = ap (λ x. record { call = x; answer = a } ∷ before) call ∙ sym (logged_more steps log i a room) in
           subst (λ h. Follows rows number free₀ h g.B.Board.rows g.P.Pool.free c.perform.new.self) more
-          (c.perform.ensures rows number free₀ before so_far)),
+          (c.perform.ensures rows number free₀ (logged calls log i) (c.loop-i.invariant.0 rows number free₀ f))),
       (λ k l. get_or-set_other log i k a (Done Idle) (λ e. omega arith) ∙ c.loop-i.invariant.1 k (omega arith)),
     )
 
@@ -38,15 +31,15 @@ returns g c =
     let rows = rows_of c.args.plan.now in
     let number = c.args.number in
     let free = g.P.Pool.free in
-    let steps = c.args.steps.now in
+    let calls = c.args.calls.now in
     let log = c.loop-i.log in
-    let all : c.loop-i.i ≡ min (length steps) (length log) = omega arith in
-    let f : Follows rows number (free c.args.pool) (replayed steps log) g.B.Board.rows free c.loop-i.session
-    = subst (λ n. Follows rows number (free c.args.pool) (logged steps log n) g.B.Board.rows free c.loop-i.session) all
+    let all : c.loop-i.i ≡ min (length calls) (length log) = omega arith in
+    let f : Follows rows number (free c.args.pool) (replayed calls log) g.B.Board.rows free c.loop-i.session
+    = subst (λ n. Follows rows number (free c.args.pool) (logged calls log n) g.B.Board.rows free c.loop-i.session) all
     (c.loop-i.invariant.0 rows number (free c.args.pool) c.open-session.ensures.follows) in
     record {
       lawful = f.history.lawful;
-      sound = c.close.ensures.law rows number (free c.args.pool) (replayed steps log) f;
+      sound = c.close.ensures.law rows number (free c.args.pool) (replayed calls log) f;
       board = λ q. ap (λ z. get_or (g.B.Board.rows z.0) q false) c.close.ensures.parts ∙ f.tied q ∙ ap (λ s. is_some (s.job q)) f.history.told;
       pool = ap (λ z. free z.1) c.close.ensures.parts ∙ ap (λ s. s.free) f.history.told;
       rest = λ k l. c.loop-i.invariant.1 k (omega arith);

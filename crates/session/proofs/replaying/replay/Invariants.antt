@@ -10,5 +10,5 @@ use Rattle.session.proofs.replaying.replay.Given as goal
 abbrev pub invariant-loop-i : goal.invariant-loop-i
 invariant-loop-i g l =
     ((rows : List Row) (number : ℕ) (free₀ : List Bool) → Follows rows number free₀ [] g.B.Board.rows g.P.Pool.free l.initial.session
-    → Follows rows number free₀ (logged l.steps l.log l.i) g.B.Board.rows g.P.Pool.free l.session)
+    → Follows rows number free₀ (logged l.calls l.log l.i) g.B.Board.rows g.P.Pool.free l.session)
     × ((k : ℕ) → l.i ≤ k → get_or l.log k (Done Idle) ≡ get_or l.initial.log k (Done Idle))
