@@ -8,10 +8,10 @@ use pool::{BitmapPool, FreeListPool, Pool};
 use row::Fault;
 use script::{BoardName, Opening, PoolName};
 use session::replay_steps;
-use std::alloc::Global;
+use std::alloc::{AllocError, Global};
 use std::fmt::Write;
 use std::str::from_utf8;
-use std::{fmt, io};
+use std::io;
 use traces::Trace;
 
 pub(crate) fn run(heap: Global, script: &Script<'_>) -> io::Result<String> {
@@ -94,7 +94,7 @@ fn show_calls(
     Ok(trace)
 }
 
-fn show_answer(out: &mut String, answer: Answer) -> fmt::Result {
+fn show_answer(out: &mut String, answer: Answer) -> Result<(), AllocError> {
     match answer {
         Answer::Block(block) => write!(out, "block {block}"),
         Answer::Turn(turn) => match turn.work {
@@ -113,14 +113,14 @@ fn show_answer(out: &mut String, answer: Answer) -> fmt::Result {
     }
 }
 
-fn show_fault(out: &mut String, fault: Fault) -> fmt::Result {
+fn show_fault(out: &mut String, fault: Fault) -> Result<(), AllocError> {
     let number = fault.refusal.number();
     let layer = from_utf8(fault.layer.word()).unwrap_or("");
     let place = fault.place;
     write!(out, "refused {number} {layer} {place}")
 }
 
-fn show_ending(out: &mut String, ending: Ending<'_>) -> fmt::Result {
+fn show_ending(out: &mut String, ending: Ending<'_>) -> Result<(), AllocError> {
     match ending {
         Ending::Refused(fault) => show_fault(out, fault)?,
         Ending::Line(number, wrong) => write!(out, "line {number}: {wrong}")?,
