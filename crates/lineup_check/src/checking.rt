@@ -30,8 +30,7 @@ fn listing_text(input: &[u8]) -> Text
 
 // Writes the listing of a line-up to the front of the output and answers its length,
 // or answers 0 and leaves the output as it was where the listing does not fit.
-#[unsafe(no_mangle)]
-pub extern "C" fn check_lineup(input: &[u8], output: &mut [u8]) -> usize
+pub fn check_lineup(input: &[u8], output: &mut [u8]) -> usize
     ensures listed { (text : List ℕ) × Listing input.now text × Written text output.old output.new result }
     ensures bound { result ≤ length output.new }
     ensures single { OneListing }
