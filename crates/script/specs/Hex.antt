@@ -1,5 +1,5 @@
 -- Bytes in hexadecimal. Assumes nothing.
-use Rattle.std.specs.Prelude.{◌≡◌, ℕ, ◌+◌, ◌-◌, ◌/◌, ◌%◌, ◌<◌, ◌≤◌, Bool, true, false, cond, ◌||◌, List, [], ◌∷◌, ◌++◌, length, is_some, Some, None, Option, ◌==◌, slice_index}
+use Rattle.std.specs.Prelude.{◌≡◌, ℕ, ◌/◌, ◌%◌, ◌<◌, ◌≤◌, Bool, true, false, cond, ◌||◌, List, [], ◌∷◌, ◌++◌, length, is_some, Some, None, Option, ◌==◌, slice_index}
 use Rattle.std.specs.Char.{digit_value}
 use Rattle.script.specs.declared.hex.HexFault.{HexFault}
 use Rattle.script.specs.declared.hex.HexFault.TheVariants.{NoDigit, OddDigits, TooLong, NoMemory}

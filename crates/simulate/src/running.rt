@@ -10,8 +10,8 @@ use script::{BoardName, Opening, PoolName};
 use session::replay_steps;
 use std::alloc::{AllocError, Global};
 use std::fmt::Write;
-use std::str::from_utf8;
 use std::io;
+use std::str::from_utf8;
 use traces::Trace;
 
 pub(crate) fn run(heap: Global, script: &Script<'_>) -> io::Result<String> {
