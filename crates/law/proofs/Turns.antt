@@ -1,9 +1,8 @@
 -- The open turn can be reported. Assumes nothing.
-use Rattle.std.proofs.Common.{◌≡◌, ℕ, Bool, true, false, cond, not, ◌&&◌, eqb, List, is_some, Some, None, Option, sym, refl, ap, ◌∙◌, subst, ap₂, arith}
+use Rattle.std.proofs.Common.{◌≡◌, ℕ, true, false, not, List, is_some, Some, None, Option, refl, ap, ◌∙◌, subst, arith}
 use Rattle.std.proofs.lemmas.Bool.{eq-eqb, and_from, and_right}
 use Rattle.row.specs.declared.faults.Fault.{Fault}
 use Rattle.row.specs.declared.rows.Row.{Row}
-use Rattle.law.specs.declared.calls.Answer.{Answer}
 use Rattle.law.specs.declared.calls.Answer.TheVariants.{Refused}
 use Rattle.law.specs.declared.calls.Call.TheVariants.{Report}
 use Rattle.law.specs.declared.calls.TurnNumbers.{TurnNumbers}

@@ -1,5 +1,5 @@
 -- A line-up has one listing. Assumes nothing.
-use Rattle.std.proofs.Common.{◌≡◌, ℕ, ◌⊎◌, List, Ok, Err, Result, sym, ap, ◌∙◌, ap₂, inl, inr}
+use Rattle.std.proofs.Common.{◌≡◌, List, Ok, Err, Result, sym, ap, ◌∙◌, ap₂, inl, inr}
 use Rattle.row.specs.declared.faults.Fault.{Fault}
 use Rattle.row.specs.declared.rows.RowNumbers.{RowNumbers}
 use Rattle.format.specs.declared.records.ReadFault.{ReadFault}
@@ -8,7 +8,7 @@ use Rattle.judge.specs.Plan.{rows_of, bounds_of}
 use Rattle.judge.specs.declared.plan.Plan.{Plan}
 use Rattle.judge.proofs.OneAnswer.{determined}
 use Rattle.lineup_check.specs.Lines.{bound_lines, refused_line}
-use Rattle.lineup_check.specs.Listing.{rows_in, Planned, Faulty, Listing, OneListing}
+use Rattle.lineup_check.specs.Listing.{rows_in, Planned, Faulty, OneListing}
 
 -- a line-up fills plans alike, has one fault, and not both a plan and a fault
 same_plans : (read : Result (List RowNumbers) ReadFault) (p q : Plan) → Planned read p → Planned read q → (rows_of p ≡ rows_of q) × (bounds_of p ≡ bounds_of q)

@@ -1,4 +1,6 @@
 // Replays one list of calls over both boards and both pools, and prints the answers side by side.
+#![tactic(auto)]
+
 use board::{Board, ChainBoard, WordBoard};
 use judge::{Plan, judge};
 use law::{Answer, Call, Outcome, TurnNumbers, Work};

@@ -1,4 +1,4 @@
-use Rattle.std.proofs.Common.{◌≡◌, ◌++◌, sym, ap, ◌∙◌, add-one, arith}
+use Rattle.std.proofs.Common.{◌++◌, sym, ap, ◌∙◌, add-one, arith}
 use Rattle.std.specs.List.{slice_get}
 use Rattle.judge.specs.Plan.{rows_of, bounds_of}
 use Rattle.lineup_check.specs.Lines.{line_at, lines_to}

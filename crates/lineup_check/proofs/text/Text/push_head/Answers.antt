@@ -1,4 +1,4 @@
-use Rattle.std.proofs.Common.{◌≡◌, ◌≤◌, ◌++◌, length, decimal, ap, ◌∙◌, arith}
+use Rattle.std.proofs.Common.{◌++◌, length, decimal, ap, ◌∙◌, arith}
 use Rattle.lineup_check.specs.Lines.{spaced}
 use Rattle.lineup_check.specs.Texts.{text_of}
 use Rattle.lineup_check.proofs.Appended.{appended}
