@@ -1,15 +1,19 @@
 //! Proves the core and links it as a static library.
 //!
-//! `rt staticlib check` proves the crate `check` with all that it relies on, and writes
-//! `target/staticlib/libcheck.a`. The library is copied into cargo's own folder, so that removing
-//! the repository's `target/` does not break a host that is already built.
+//! `rt lib` in the folder of the crate `lineup_check_c` proves it with all that it relies on, and
+//! writes `out/liblineup_check_c.a` there. The library is copied into cargo's own folder under the
+//! name that hosts link, `libcheck.a`, so that removing `out/` does not break a host that is
+//! already built.
 
 use std::path::{Path, PathBuf};
 use std::process::Command;
 use std::{env, fs, io};
 
 /// The Rattle crate that exports the core's calls.
-const CORE: &str = "check";
+const CORE: &str = "lineup_check_c";
+
+/// The name under which a host links the library.
+const LINKED: &str = "check";
 
 fn main() {
     if let Err(message) = link_core() {
@@ -24,15 +28,12 @@ fn link_core() -> Result<(), String> {
     let out = folder("OUT_DIR")?;
     watch_sources(&root)?;
 
-    rt(&root, &["staticlib", CORE])?;
-    let library = format!("lib{CORE}.a");
-    copy(&root.join("target/staticlib").join(&library), &out.join(&library))?;
+    let core = root.join("crates").join(CORE);
+    rt(&core, &["lib"])?;
+    copy(&core.join("out").join(format!("lib{CORE}.a")), &out.join(format!("lib{LINKED}.a")))?;
 
-    let kit_library = kit(&root)?.join("lib");
     println!("cargo::rustc-link-search=native={}", out.display());
-    println!("cargo::rustc-link-search=native={}", kit_library.display());
-    println!("cargo::rustc-link-lib=static={CORE}");
-    println!("cargo::rustc-link-lib=static=rattle_c");
+    println!("cargo::rustc-link-lib=static={LINKED}");
     Ok(())
 }
 
@@ -43,20 +44,10 @@ fn folder(variable: &str) -> Result<PathBuf, String> {
         .ok_or_else(|| format!("{variable} is not set: build this package with cargo"))
 }
 
-/// The folder of the toolchain: `rt doc` prints the path of a guide in its folder `docs/`.
-fn kit(root: &Path) -> Result<PathBuf, String> {
-    let guide = rt(root, &["doc"])?;
-    Path::new(guide.trim())
-        .ancestors()
-        .nth(2)
-        .map(Path::to_path_buf)
-        .ok_or_else(|| format!("`rt doc` gave no path in the toolchain's folder: {guide}"))
-}
-
-/// Runs `rt` in the repository's root and gives what it printed.
-fn rt(root: &Path, words: &[&str]) -> Result<String, String> {
+/// Runs `rt` in a folder and gives what it printed.
+fn rt(folder: &Path, words: &[&str]) -> Result<String, String> {
     let command = format!("rt {}", words.join(" "));
-    let output = Command::new("rt").args(words).current_dir(root).output();
+    let output = Command::new("rt").args(words).current_dir(folder).output();
     let output = output.map_err(|error| match error.kind() {
         io::ErrorKind::NotFound => format!(
             "`{command}` builds the core, but `rt`, the Rattle toolchain's command, is not on the path"
@@ -105,15 +96,17 @@ fn watch(path: &Path) {
     println!("cargo::rerun-if-changed={}", path.display());
 }
 
-/// The core's crate and those it relies on, by `crates.txt`, which has a line `NAME: DEP DEP` for
-/// each crate.
+/// The core's crate and those it relies on, by `crates.txt`, which has a line `NAME: DEP DEP` or
+/// `NAME staticlib: DEP DEP` for each crate.
 fn reached(list: &str) -> Vec<&str> {
     let mut names = vec![CORE];
     let mut next = 0;
     while let Some(&name) = names.get(next) {
         next += 1;
-        let line =
-            list.lines().filter_map(|line| line.split_once(':')).find(|(of, _)| of.trim() == name);
+        let line = list
+            .lines()
+            .filter_map(|line| line.split_once(':'))
+            .find(|(of, _)| of.split_whitespace().next() == Some(name));
         for dependency in line.map_or("", |(_, words)| words).split_whitespace() {
             if !names.contains(&dependency) {
                 names.push(dependency);

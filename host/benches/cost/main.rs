@@ -71,9 +71,9 @@ fn compare_readers() {
 /// The session as a Rattle program, which runs all pairs of board and pool, and the same calls in
 /// plain Rust.
 fn compare_sessions() {
-    let program = Path::new(env!("CARGO_MANIFEST_DIR")).join("../target/bin/session_cost");
+    let program = Path::new(env!("CARGO_MANIFEST_DIR")).join("../crates/session_cost/out/session_cost");
     if !program.exists() {
-        println!("session: not measured; build the program by `rt check session_cost`");
+        println!("session: not measured; build the program by `rt run` in crates/session_cost");
         return;
     }
     let mut times = [const { Vec::new() }; RUNS.len()];
