@@ -1,6 +1,6 @@
 // Whole records packed at the front of a buffer.
 ghost use Rattle.std.specs.Prelude.{◌≡◌, ◌+◌, ◌*◌, ◌≤◌, true, ◌++◌, length, drop};
-ghost use Rattle.std.specs.List.{AllByRecursion as All};
+ghost use Rattle.std.specs.List.{AllByRecursion};
 ghost use Rattle.row.specs.Rows.{keeps};
 ghost use Rattle.format.specs.Encoding.{number_of, bits_of, big_endian, FieldFits, row_bytes, label_bytes, end_bytes, record_bytes, Encodable, overwritten};
 ghost use Rattle.format.specs.Reading.{size_of};
@@ -12,7 +12,7 @@ use row::RowNumbers;
 
 // Packs fields of (width, value) behind one another. Together they take whole bytes.
 fn pack_fields(bytes: &mut [u8], fields: &[(u32, u32)], size: usize)
-    requires each { All FieldFits fields.now }
+    requires each { AllByRecursion FieldFits fields.now }
     requires whole { (bits_of fields.now ≡ 8 * size) × (size ≤ 10) }
     requires within { size ≤ length bytes.old }
     ensures { bytes.new ≡ big_endian size (number_of fields.now) ++ drop size bytes.old }
