@@ -38,8 +38,8 @@ pub const LISTING_MAX: usize = 1472;
 pub const TICKS_PER_MS: u32 = 16;
 
 unsafe extern "C" {
-    /// `check_lineup(input: &[u8], output: &mut [u8]) -> usize` of the Rattle crate `check`: a
-    /// slice crosses as pointer and length.
+    /// `check_lineup(input: &[u8], output: &mut [u8]) -> usize` of the Rattle crate
+    /// `lineup_check_c`: a slice crosses as pointer and length.
     fn check_lineup(
         input: *const u8,
         input_len: usize,

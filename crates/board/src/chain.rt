@@ -1,5 +1,5 @@
 // A board as a chain of its rows in order: the first row, and for each row on the board the one behind it.
-ghost use Rattle.std.specs.Prelude.{◌≡◌, ◌<◌, true, false, length, set, slice_set};
+ghost use Rattle.std.specs.Prelude.{◌≡◌, ◌<◌, true, false, length, slice_set};
 ghost use Rattle.sets.specs.Sets.{empty, member};
 ghost use Rattle.sets.specs.Chains.{on_chain};
 ghost use Rattle.board.specs.Order.{Begins, GoesOn, LastBelow};

@@ -1,5 +1,5 @@
 // Read, judge, list.
-ghost use Rattle.std.specs.Prelude.{◌≡◌, ℕ, ◌≤◌, List, length, MatchResult};
+ghost use Rattle.std.specs.Prelude.{ℕ, ◌≤◌, List, length, MatchResult};
 ghost use Rattle.lineup_check.specs.Listing.{rows_in, Faulty, Planned, Listing, Written, OneListing};
 ghost use Rattle.lineup_check.specs.Texts.{text_of};
 

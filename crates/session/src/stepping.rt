@@ -1,5 +1,5 @@
 // Replay of a list of steps, in which a report may bring whichever turn is open.
-ghost use Rattle.std.specs.Prelude.{◌≡◌, ℕ, ◌≤◌, min, false, length, is_some, slice_index_or};
+ghost use Rattle.std.specs.Prelude.{◌≡◌, ℕ, ◌≤◌, false, length, is_some, slice_index_or};
 ghost use Rattle.judge.specs.Plan.{rows_of};
 ghost use Rattle.law.specs.History.{job_at, free_at, made};
 ghost use Rattle.law.specs.Law.{Sound, Throughout};
