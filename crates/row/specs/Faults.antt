@@ -1,5 +1,5 @@
 -- The number of each refusal and the word of each layer, as they are printed. Assumes nothing.
-use Rattle.std.specs.Prelude.{ℕ, List, codes}
+use Rattle.std.specs.Prelude.{ℕ, List, ◌++◌, codes, decimal}
 use Rattle.row.specs.declared.faults.Refusal.{Refusal}
 use Rattle.row.specs.declared.faults.Refusal.TheVariants.{UnknownKind, InputEnds, FillingNotZero, BadLabel, OutsideLimits, TooManyRows, WrongCount, AfterEnd, NoRoom, NormalBound, MixedBound, LongBound, TurnOpen, ClockFull, NotInPlan, AbnormalHelper, TooEarly, HelperInAbnormalMode, JobNotEnded, NoFreeBlock, NotOpenTurn, IdleFinished}
 use Rattle.row.specs.declared.faults.Fault.{Fault}
@@ -35,6 +35,10 @@ word_of Reader = codes "reader"
 word_of Writer = codes "writer"
 word_of Judge = codes "judge"
 word_of Session = codes "session"
+
+-- a fault as it is printed: its number, its layer and its place
+abbrev pub fault_text : Fault → List ℕ
+fault_text f = codes "refused " ++ decimal (number_of f.refusal) ++ codes " " ++ word_of f.layer ++ codes " " ++ decimal f.place
 
 -- plain numbers that break the limits make no row
 abbrev pub outside_limits : Fault

@@ -1,6 +1,8 @@
 -- A row by its numbers. Assumes nothing.
-use Rattle.std.specs.Prelude.{ℕ, Bool, true, false}
+use Rattle.std.specs.Prelude.{◌≡◌, ℕ, Bool, true, false, Result, MatchResult}
 use Rattle.row.specs.Limits.{within}
+use Rattle.row.specs.Faults.{outside_limits}
+use Rattle.row.specs.declared.faults.Fault.{Fault}
 use Rattle.row.specs.declared.rows.Row.{Row}
 use Rattle.row.specs.declared.rows.Row.TheVariants.{Track, Helper}
 use Rattle.row.specs.declared.rows.RowNumbers.{RowNumbers}
@@ -14,6 +16,18 @@ numbers_of (Helper h) = helper h.period h.deadline h.short
 abbrev pub keeps : RowNumbers → Bool
 keeps (track T D C L) = within T D C L
 keeps (helper T D C) = within T D C C
+
+-- the row with these numbers, or the refusal of numbers that break the limits
+abbrev pub RowOrFault : RowNumbers → Result Row Fault → Type 0
+RowOrFault numbers r = MatchResult r (λ row. (keeps numbers ≡ true) × (numbers_of row ≡ numbers)) (λ f. (keeps numbers ≡ false) × (f ≡ outside_limits))
+
+-- numbers that make no row
+abbrev pub blank : RowNumbers
+blank = helper 0 0 0
+
+-- the least numbers that make one
+abbrev pub least : RowNumbers
+least = helper 1 1 1
 
 abbrev pub period_of : Row → ℕ
 period_of (Track t) = t.period

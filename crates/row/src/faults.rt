@@ -1,36 +1,38 @@
 // Faults: what a call that refuses says. A fault passes through every layer above unchanged.
-ghost use Rattle.std.specs.Prelude.{◌≡◌};
-ghost use Rattle.row.specs.Faults.{number_of, word_of};
+ghost use Rattle.std.specs.Prelude.{◌≡◌, Some};
+ghost use Rattle.row.specs.Faults.{number_of, word_of, fault_text};
 
-// Why a call refused. `number` gives the number that the outside knows it by.
-#[derive(Clone, Copy)]
+use std::fmt;
+
+// Why a call refused. Its number is the one that the outside knows it by.
+#[derive(Clone, Copy, Debug, PartialEq, Eq)]
 pub enum Refusal {
-    UnknownKind,
-    InputEnds,
-    FillingNotZero,
-    BadLabel,
-    OutsideLimits,
-    TooManyRows,
-    WrongCount,
-    AfterEnd,
-    NoRoom,
-    NormalBound,
-    MixedBound,
-    LongBound,
-    TurnOpen,
-    ClockFull,
-    NotInPlan,
-    AbnormalHelper,
-    TooEarly,
-    HelperInAbnormalMode,
-    JobNotEnded,
-    NoFreeBlock,
-    NotOpenTurn,
-    IdleFinished,
+    UnknownKind = 1,
+    InputEnds = 2,
+    FillingNotZero = 3,
+    BadLabel = 4,
+    OutsideLimits = 5,
+    TooManyRows = 6,
+    WrongCount = 7,
+    AfterEnd = 8,
+    NoRoom = 9,
+    NormalBound = 10,
+    MixedBound = 11,
+    LongBound = 12,
+    TurnOpen = 13,
+    ClockFull = 14,
+    NotInPlan = 15,
+    AbnormalHelper = 16,
+    TooEarly = 17,
+    HelperInAbnormalMode = 18,
+    JobNotEnded = 19,
+    NoFreeBlock = 20,
+    NotOpenTurn = 21,
+    IdleFinished = 22,
 }
 
 // The part of the core that refused.
-#[derive(Clone, Copy)]
+#[derive(Clone, Copy, Debug, PartialEq, Eq)]
 pub enum Layer {
     Reader,
     Writer,
@@ -39,7 +41,7 @@ pub enum Layer {
 }
 
 // A refusal, the layer it comes from, and its place: an offset, a length, a row, a count or a clock.
-#[derive(Clone, Copy)]
+#[derive(Clone, Copy, Debug, PartialEq, Eq)]
 pub struct Fault {
     pub refusal: Refusal,
     pub layer: Layer,
@@ -51,43 +53,40 @@ impl Refusal {
     pub fn number(&self) -> u8
         ensures { result ≡ number_of self.now }
     {
-        match *self {
-            Refusal::UnknownKind => 1,
-            Refusal::InputEnds => 2,
-            Refusal::FillingNotZero => 3,
-            Refusal::BadLabel => 4,
-            Refusal::OutsideLimits => 5,
-            Refusal::TooManyRows => 6,
-            Refusal::WrongCount => 7,
-            Refusal::AfterEnd => 8,
-            Refusal::NoRoom => 9,
-            Refusal::NormalBound => 10,
-            Refusal::MixedBound => 11,
-            Refusal::LongBound => 12,
-            Refusal::TurnOpen => 13,
-            Refusal::ClockFull => 14,
-            Refusal::NotInPlan => 15,
-            Refusal::AbnormalHelper => 16,
-            Refusal::TooEarly => 17,
-            Refusal::HelperInAbnormalMode => 18,
-            Refusal::JobNotEnded => 19,
-            Refusal::NoFreeBlock => 20,
-            Refusal::NotOpenTurn => 21,
-            Refusal::IdleFinished => 22,
-        }
+        *self as u8
     }
 }
 
 impl Layer {
     // The word by which the outside knows the layer.
-    pub fn word(&self) -> &'static [u8]
+    pub fn word(&self) -> &'static str
         ensures { result.now ≡ word_of self.now }
     {
         match *self {
-            Layer::Reader => b"reader",
-            Layer::Writer => b"writer",
-            Layer::Judge => b"judge",
-            Layer::Session => b"session",
+            Layer::Reader => "reader",
+            Layer::Writer => "writer",
+            Layer::Judge => "judge",
+            Layer::Session => "session",
         }
+    }
+}
+
+impl fmt::Display for Layer {
+    ghost output = { λ layer. Some (word_of layer) };
+
+    fn fmt<W: fmt::Write>(&self, f: &mut fmt::Formatter<W>) -> fmt::Result {
+        f.write_str(self.word())
+    }
+}
+
+// The words of a refusal, as every listing and every tool prints them.
+impl fmt::Display for Fault {
+    ghost output = { λ fault. Some (fault_text fault) };
+
+    fn fmt<W: fmt::Write>(&self, f: &mut fmt::Formatter<W>) -> fmt::Result {
+        let number = self.refusal.number();
+        let layer = self.layer;
+        let place = self.place;
+        write!(f, "refused {number} {layer} {place}")
     }
 }

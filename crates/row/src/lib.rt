@@ -2,6 +2,7 @@
 #![tactic(auto)]
 
 mod faults;
+mod kinds;
 mod making;
 mod rows;
 

@@ -1,17 +1,18 @@
 // Rows from plain numbers and back.
-ghost use Rattle.std.specs.Prelude.{◌≡◌, true, false, MatchResult};
-ghost use Rattle.row.specs.Rows.{numbers_of, keeps, period_of, deadline_of, short_of, long_of, is_track};
+ghost use Rattle.std.specs.Prelude.{◌≡◌};
+ghost use Rattle.row.specs.Rows.{numbers_of, blank, least, RowOrFault, period_of, deadline_of, short_of, long_of, is_track};
 ghost use Rattle.row.specs.Limits.{within};
-ghost use Rattle.row.specs.Faults.{outside_limits};
 
 use super::faults::{Fault, Layer, Refusal};
 use super::rows::{Helper, Row, RowNumbers, Track};
 
-impl Row {
+impl TryFrom<RowNumbers> for Row {
+    type Error = Fault;
+
+    ghost try_from_gives = { RowOrFault };
+
     // The row with these numbers, or the refusal of numbers that break the limits.
-    pub fn new(numbers: RowNumbers) -> Result<Row, Fault>
-        ensures { MatchResult result (λ row. (keeps numbers ≡ true) × (numbers_of row ≡ numbers)) (λ f. (keeps numbers ≡ false) × (f ≡ outside_limits)) }
-    {
+    fn try_from(numbers: RowNumbers) -> Result<Row, Fault> {
         match numbers {
             RowNumbers::Track {
                 period,
@@ -48,12 +49,14 @@ impl Row {
             place: 0,
         })
     }
+}
 
-    // The row as plain numbers.
-    pub fn numbers(&self) -> RowNumbers
-        ensures { result ≡ numbers_of self.now }
-    {
-        match *self {
+// The row as plain numbers.
+impl From<Row> for RowNumbers {
+    ghost from_gives = { λ row r. r ≡ numbers_of row };
+
+    fn from(row: Row) -> RowNumbers {
+        match row {
             Row::Track(t) => RowNumbers::Track {
                 period: t.period,
                 deadline: t.deadline,
@@ -67,7 +70,35 @@ impl Row {
             },
         }
     }
+}
 
+// Numbers that make no row, for a place that is not in use.
+impl Default for RowNumbers {
+    ghost is_default = { λ r. r ≡ blank };
+
+    fn default() -> RowNumbers {
+        RowNumbers::Helper {
+            period: 0,
+            deadline: 0,
+            short: 0,
+        }
+    }
+}
+
+// The least row that there is, for a place that is not in use.
+impl Default for Row {
+    ghost is_default = { λ r. numbers_of r ≡ least };
+
+    fn default() -> Row {
+        Row::Helper(Helper {
+            period: 1,
+            deadline: 1,
+            short: 1,
+        })
+    }
+}
+
+impl Row {
     // T: the least time between two arrivals, in ticks.
     pub fn period(&self) -> u32
         ensures { result ≡ period_of self.now }
@@ -112,10 +143,7 @@ impl Row {
     pub fn is_track(&self) -> bool
         ensures { result ≡ is_track self.now }
     {
-        match *self {
-            Row::Track(_) => true,
-            Row::Helper(_) => false,
-        }
+        matches!(self, Row::Track(_))
     }
 }
 

@@ -3,7 +3,7 @@ ghost use Rattle.row.specs.Limits.{Limits};
 
 // A track is a high-criticality task: it stores somebody's voice.
 // A job of it needs at most `short` ticks, or at most `long` where packets are missing.
-#[derive(Clone, Copy)]
+#[derive(Clone, Copy, Debug, PartialEq, Eq)]
 pub struct Track {
     pub period: u32,
     pub deadline: u32,
@@ -13,7 +13,7 @@ pub struct Track {
 }
 
 // A helper is a low-criticality task: it draws meters and may give way. It has one budget.
-#[derive(Clone, Copy)]
+#[derive(Clone, Copy, Debug, PartialEq, Eq)]
 pub struct Helper {
     pub period: u32,
     pub deadline: u32,
@@ -22,14 +22,14 @@ pub struct Helper {
 }
 
 // A row of a line-up. Its number is its priority: a smaller number goes first.
-#[derive(Clone, Copy)]
+#[derive(Clone, Copy, Debug, PartialEq, Eq)]
 pub enum Row {
     Track(Track),
     Helper(Helper),
 }
 
 // What a row is made of, as plain numbers of which nothing is known.
-#[derive(Clone, Copy)]
+#[derive(Clone, Copy, Debug, PartialEq, Eq)]
 pub enum RowNumbers {
     Track {
         period: u32,
@@ -45,7 +45,7 @@ pub enum RowNumbers {
 }
 
 // A normal job has the short budget, an abnormal one the long budget. Only tracks have abnormal jobs.
-#[derive(Clone, Copy)]
+#[derive(Clone, Copy, Debug, PartialEq, Eq)]
 pub enum Kind {
     Normal,
     Abnormal,
