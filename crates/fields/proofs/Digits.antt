@@ -1,7 +1,9 @@
 -- Laws of numbers given by their binary digits, for every number of digits. Assumes nothing.
-use Rattle.std.proofs.Common.{◌≡◌, ℕ, zero, suc, ◌+◌, ◌-◌, ◌*◌, ◌/◌, ◌%◌, ◌^◌, ◌<◌, ◌≤◌, ◌≢◌, List, length, get_or, take, drop, set, sym, refl, ap, ◌∙◌, add-zero, add_assoc, add-suc, mul_assoc, pow-suc, zero-add, add-one, arith, lit≤}
-use Rattle.std.proofs.lemmas.List.{get_or-take, get_or-drop, get_or-set_same, get_or-set_other}
-use Rattle.std.proofs.lemmas.Nat.{pow-add, shr_high, mod_low, mod-pow-add, shr-shr}
+use Rattle.std.proofs.Common.{◌≡◌, ℕ, zero, suc, ◌+◌, ◌-◌, ◌*◌, ◌/◌, ◌%◌, ◌^◌, ◌<◌, ◌≤◌, List, get_or, take, drop, sym, refl, ap, ◌∙◌, add-zero, add_assoc, add-suc, mul_assoc, pow-suc, zero-add, add-one, arith, lit≤, lit<}
+use Rattle.std.proofs.Math.Nat.{mod-eq_of_lt}
+use Rattle.std.proofs.lemmas.List.{get_or-take, get_or-drop}
+use Rattle.std.proofs.lemmas.Nat.{pow-add, from_be_bytes-to_be_bytes_8, shr_high, mod_low, mod-pow-add, shr-shr}
+use Rattle.std.specs.Int.{w64, to_be_bytes, from_be_bytes, bytes_high_first}
 use Rattle.fields.specs.Fields.{bit_at, value_of, field}
 
 -- digits that agree give the same number
@@ -97,6 +99,13 @@ field_cut bs o lead w tail =
     value_cut (λ i. bit_at bs (o + i)) (λ i. bit_below bs (o + i)) lead w tail
     ∙ value_same _ _ w (λ i h. ap (bit_at bs) (sym (add_assoc o lead i)))
 
+-- a bit of the rest of a list is the list's bit behind what was dropped
+bit_from : (bs : List ℕ) (a j : ℕ) → bit_at (drop a bs) (0 + j) ≡ bit_at bs (8 * a + j)
+bit_from bs a j =
+    let byte : (8 * a + j) / 8 ≡ a + (0 + j) / 8 = omega arith in
+    let bit : (8 * a + j) % 8 ≡ (0 + j) % 8 = omega arith in
+    rw (byte, bit, get_or-drop) refl
+
 -- a bit of a part of a list is the list's bit at that part
 pub bit_part : (bs : List ℕ) (a n j : ℕ) → j < 8 * n → bit_at (take n (drop a bs)) j ≡ bit_at bs (8 * a + j)
 bit_part bs a n j h =
@@ -123,32 +132,55 @@ bit_of_field bs o w i h =
 pub same_bits : (cs bs : List ℕ) (o w i : ℕ) → field cs o w ≡ field bs o w → i < w → bit_at cs (o + i) ≡ bit_at bs (o + i)
 same_bits cs bs o w i e h = bit_of_field cs o w i h ∙ ap (λ v. v / 2 ^ (w - suc i) % 2) e ∙ sym (bit_of_field bs o w i h)
 
--- a write to byte n leaves the bits before it
-pub field-set : (bs : List ℕ) (n b : ℕ) → field (set bs n b) 0 (8 * n) ≡ field bs 0 (8 * n)
-field-set bs n b = value_same (λ i. bit_at (set bs n b) (0 + i)) (λ i. bit_at bs (0 + i)) (8 * n) each
-  where
-    each : (i : ℕ) → i < 8 * n → bit_at (set bs n b) (0 + i) ≡ bit_at bs (0 + i)
-    each i h =
-        let before : (0 + i) / 8 ≢ n = omega arith in
-        rw get_or-set_other refl
+-- eight bytes are the number that they are read as
+pub field_eight : (bs : List ℕ) → ((k : ℕ) → get_or bs k 0 < 256) → field bs 0 64 ≡ from_be_bytes w64 bs
+unfolding value_of
+field_eight bs small =
+    omega (arith, field_more bs 0 (small 0), field_more bs 1 (small 1), field_more bs 2 (small 2), field_more bs 3 (small 3), field_more bs 4 (small 4), field_more bs 5 (small 5), field_more bs 6 (small 6), field_more bs 7 (small 7))
 
--- byte n written with the next eight bits of a number of 8 * m bits, of which n bytes are there
-pub field_store : (bs : List ℕ) (v m n b : ℕ) → n < m → n < length bs → b ≡ v / 2 ^ (8 * (m - 1 - n)) % 256
-    → field bs 0 (8 * n) ≡ v / 2 ^ (8 * (m - n)) → field (set bs n b) 0 (8 * (n + 1)) ≡ v / 2 ^ (8 * (m - (n + 1)))
-field_store bs v m n b h l e before =
-    let y : ℕ = v / 2 ^ (8 * (m - 1 - n)) in
-    let here : get_or (set bs n b) n 0 ≡ b = get_or-set_same bs n b 0 l in
-    let bits : 8 * (m - 1 - n) + 8 ≡ 8 * (m - n) = omega arith in
-    let front : y / 2 ^ 8 ≡ v / 2 ^ (8 * (m - n)) = shr-shr v (8 * (m - 1 - n)) 8 ∙ ap (λ k. v / 2 ^ k) bits in
-    let last : 8 * (m - (n + 1)) ≡ 8 * (m - 1 - n) = omega arith in
-    rw last (omega (arith, field_more (set bs n b) n (omega arith), field-set bs n b))
+byte_small : (n v k : ℕ) → get_or (bytes_high_first n v) k 0 < 256
+byte_small zero v k = omega arith
+byte_small (suc zero) v zero = omega arith
+byte_small (suc (suc n)) v zero = omega arith
+byte_small (suc n) v (suc k) = byte_small n v k
 
--- the bytes that hold a field, as one number, with what stands behind and before the field cut off
-pub field_from_bytes : (bs : List ℕ) (o w first past v : ℕ) → first ≡ o / 8 → past ≡ (o + w + 7) / 8
-    → v ≡ field bs (8 * first) (8 * (past - first)) → v / 2 ^ (8 * past - (o + w)) % 2 ^ w ≡ field bs o w
-field_from_bytes bs o w first past v f p e =
-    let lead : ℕ = o - 8 * first in
-    let tail : ℕ = 8 * past - (o + w) in
-    let bits : 8 * (past - first) ≡ (lead + w) + tail = omega arith in
-    let start : 8 * first + lead ≡ o = omega arith in
-    ap (λ k. k / 2 ^ tail % 2 ^ w) (e ∙ ap (field bs (8 * first)) bits) ∙ field_cut bs (8 * first) lead w tail ∙ ap (λ k. field bs k w) start
+-- and more bytes behind them change nothing
+pub field_front : (bs : List ℕ) → ((k : ℕ) → get_or bs k 0 < 256) → from_be_bytes w64 (take 8 bs) ≡ field bs 0 64
+field_front bs small =
+    let front : (k : ℕ) → k < 8 → get_or (take 8 bs) k 0 ≡ get_or bs k 0 = λ k. get_or-take 8 bs k 0 in
+    omega (arith, field_eight bs small, front 0 (lit< tt), front 1 (lit< tt), front 2 (lit< tt), front 3 (lit< tt), front 4 (lit< tt), front 5 (lit< tt), front 6 (lit< tt), front 7 (lit< tt))
+
+-- the last n bytes of a number are the number, if it is small enough
+pub field_last : (v n : ℕ) → n ≤ 8 → v < 2 ^ (8 * n) → v < 2 ^ 64 → field (drop (8 - n) (to_be_bytes w64 v)) 0 (8 * n) ≡ v
+field_last v n h small fits =
+    let bytes = to_be_bytes w64 v in
+    let whole : field bytes 0 (8 * (8 - n) + 8 * n) ≡ v =
+    ap (field bytes 0) (omega arith) ∙ field_eight bytes (byte_small 8 v) ∙ from_be_bytes-to_be_bytes_8 v fits in
+    let part : field (drop (8 - n) bytes) 0 (8 * n) ≡ field bytes (8 * (8 - n)) (8 * n) =
+    value_same _ _ (8 * n) (λ i l. bit_from bytes (8 - n) i) in
+    part ∙ sym (mod_low (field bytes 0 (8 * (8 - n))) (8 * n) _ (field_below bytes (8 * (8 - n)) (8 * n)))
+    ∙ ap (λ z. z % 2 ^ (8 * n)) (sym (field_join bytes (8 * (8 - n)) (8 * n)) ∙ whole) ∙ mod-eq_of_lt small
+
+-- five of the eight bytes from byte a on
+pub field_five : (bs : List ℕ) (a : ℕ) → field (drop a bs) 0 64 / 2 ^ 24 ≡ field bs (8 * a) 40
+field_five bs a =
+    let digit : ℕ → ℕ = λ i. bit_at bs (8 * a + i) in
+    ap (λ v. v / 2 ^ 24) (value_same _ digit 64 (λ i l. bit_from bs a i) ∙ value_split digit 40 24)
+    ∙ shr_high (field bs (8 * a) 40) 24 _ (value_below (λ i. digit (40 + i)) 24 (λ i. bit_below bs (8 * a + (40 + i))))
+
+-- a field cut out of five bytes
+pub field_from_five : (bs : List ℕ) (o w v : ℕ) → w ≤ 32 → v ≡ field bs (8 * (o / 8)) 40 → v / 2 ^ (40 - (o % 8 + w)) % 2 ^ w ≡ field bs o w
+field_from_five bs o w v h e =
+    let tail : ℕ = 40 - (o % 8 + w) in
+    let bits : 40 ≡ (o % 8 + w) + tail = omega arith in
+    let start : 8 * (o / 8) + o % 8 ≡ o = omega arith in
+    ap (λ k. k / 2 ^ tail % 2 ^ w) (e ∙ ap (field bs (8 * (o / 8))) bits) ∙ field_cut bs (8 * (o / 8)) (o % 8) w tail ∙ ap (λ k. field bs k w) start
+
+-- the first n of five bytes
+pub field_of_five : (bs : List ℕ) (o n v : ℕ) → n ≤ 5 → v ≡ field bs o 40 → v / 2 ^ (40 - 8 * n) ≡ field bs o (8 * n)
+field_of_five bs o n v h e =
+    let tail : ℕ = 40 - 8 * n in
+    let bits : 40 ≡ 8 * n + tail = omega arith in
+    let digit : ℕ → ℕ = λ i. bit_at bs (o + i) in
+    ap (λ k. k / 2 ^ tail) (e ∙ ap (field bs o) bits ∙ value_split digit (8 * n) tail)
+    ∙ shr_high (field bs o (8 * n)) tail _ (value_below (λ i. digit (8 * n + i)) tail (λ i. bit_below bs (o + (8 * n + i))))

@@ -1,8 +1,8 @@
 -- A field written into a number, and the number into bytes. Assumes nothing.
-use Rattle.std.proofs.Common.{◌≡◌, ℕ, ◌+◌, ◌-◌, ◌*◌, ◌/◌, ◌%◌, ◌^◌, ◌<◌, ◌≤◌, List, ap, ◌∙◌, add-mul, arith, pow_mono}
+use Rattle.std.proofs.Common.{◌≡◌, ℕ, ◌+◌, ◌-◌, ◌*◌, ◌/◌, ◌%◌, ◌^◌, ◌<◌, ◌≤◌, List, ap, ◌∙◌, add-mul, arith}
 use lib.Arith.{digits_lt}
 use lib.Bits.{bit_and}
-use Rattle.std.proofs.lemmas.Nat.{shr_split, and_mask, one_shl, shl_whole, shl_below, mod_below, pow_pos, pow-add, shr_high, mod_low, shr_below}
+use Rattle.std.proofs.lemmas.Nat.{shr_split, and_mask, one_shl, shl_whole, mod_below, pow_pos, pow-add, shr_high, mod_low, shr_below}
 use Rattle.fields.specs.Fields.{field, with_field}
 use Rattle.fields.proofs.Digits.{field_join, field_below}
 
@@ -22,12 +22,6 @@ pub with_field_is : (n t w v : ℕ) → n - n / 2 ^ t % 2 ^ w * 2 ^ t + v * 2 ^ 
 with_field_is n t w v =
     let e = number_parts n t w in
     omega (arith, add-mul (n / 2 ^ t / 2 ^ w * 2 ^ w) v (2 ^ t))
-
--- a shifted value stays below 2 ^ 39
-pub value_small : (v t w : ℕ) → v < 2 ^ w → w ≤ 32 → t < 8 → v * 2 ^ t < 2 ^ 39
-value_small v t w h k l =
-    let few : w + t ≤ 39 = omega arith in
-    omega (arith, shl_below v w t h, pow_mono few)
 
 -- what stands behind, in and before the field of the new number
 module _ (n t w v : ℕ) (fits : v < 2 ^ w) where

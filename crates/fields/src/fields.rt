@@ -1,51 +1,68 @@
-// Bit fields, most significant bit first, read and written byte by byte.
-ghost use Rattle.std.specs.Prelude.{◌≡◌, ◌+◌, ◌-◌, ◌*◌, ◌^◌, ◌<◌, ◌≤◌, min, true, false, length, slice_index};
+// Bit fields, most significant bit first, read and written as numbers of whole bytes.
+ghost use Rattle.std.specs.Prelude.{◌≡◌, ◌+◌, ◌-◌, ◌*◌, ◌^◌, ◌<◌, ◌≤◌, min, true, false, length, drop, slice_index};
 ghost use Rattle.fields.specs.Fields.{field, with_field, fits, Packed};
 
 // A byte, or 0 past the end.
 fn byte_at(bytes: &[u8], k: usize) -> u8
     ensures { result ≡ slice_index bytes.now k }
 {
-    if k < bytes.len() { bytes[k] } else { 0 }
+    bytes.get(k).copied().unwrap_or(0)
 }
 
-// The bytes from one place to another as one number, which is the field of all their bits.
-// Five bytes hold 32 bits at any offset.
-fn whole_number(bytes: &[u8], first: usize, past: usize) -> u64
-    requires { (first ≤ past) × (past ≤ first + 5) }
-    ensures { result ≡ field bytes.now (8 * first) (8 * (past - first)) }
+// Eight bytes from the front as one number, with 0 for those past the end.
+fn eight_bytes(rest: &[u8]) -> u64
+    ensures { result ≡ field rest.now 0 64 }
 {
-    let mut value: u64 = 0;
-    for k in first..past {
-        value = value * 256 + u64::from(byte_at(bytes, k));
+    match rest.first_chunk() {
+        Some(eight) => u64::from_be_bytes(*eight),
+        // written out, since of `array::from_fn` the proof doesn't see that these are the eight bytes
+        None => u64::from_be_bytes([
+            byte_at(rest, 0),
+            byte_at(rest, 1),
+            byte_at(rest, 2),
+            byte_at(rest, 3),
+            byte_at(rest, 4),
+            byte_at(rest, 5),
+            byte_at(rest, 6),
+            byte_at(rest, 7),
+        ]),
     }
-    value
 }
 
+// What is left from a place on, which may lie past the end.
+fn rest_from(bytes: &[u8], first: usize) -> &[u8]
+    ensures { result.now ≡ drop first bytes.now }
+{
+    bytes.get(first..).unwrap_or(&[])
+}
+
+// Five bytes from a place on as one number. They hold 32 bits at any offset.
+fn five_bytes(bytes: &[u8], first: usize) -> u64
+    ensures { result ≡ field bytes.now (8 * first) 40 }
+{
+    eight_bytes(rest_from(bytes, first)) >> 24
+}
+
+// Offset and width are two numbers, no struct: callers write both out, as docs/LINEUP.md has them.
 // The field of `width` bits that begins at bit `offset`. A width over 32 counts as 32, and bits past the end are 0.
 pub fn read_field(bytes: &[u8], offset: u32, width: u32) -> u32
     ensures { result ≡ field bytes.now offset (min width 32) }
 {
     let bits = width.min(32);
-    let start = offset as usize;
-    let end = start + bits as usize;
-    let first = start / 8;
-    let past = (end + 7) / 8;
-    let value = whole_number(bytes, first, past);
-    let tail = 8 * past - end;
-    ((value >> tail) & ((1u64 << bits) - 1)) as u32
+    let first = offset as usize / 8;
+    let lead = offset % 8;
+    let tail = 40 - (lead + bits);
+    ((five_bytes(bytes, first) >> tail) & ((1u64 << bits) - 1)) as u32
 }
 
 // Writes a number over the bytes, most significant byte first.
 fn store_number(bytes: &mut [u8], value: u64)
-    requires few { length bytes.old ≤ 5 }
+    requires few { length bytes.old ≤ 8 }
     requires fits { value < 2 ^ (8 * length bytes.old) }
     ensures { field bytes.new 0 (8 * length bytes.old) ≡ value }
 {
-    let count = bytes.len();
-    for i in 0..count {
-        bytes[i] = ((value >> (8 * (count - 1 - i))) & 0xff) as u8;
-    }
+    let eight = value.to_be_bytes();
+    bytes.copy_from_slice(&eight[8 - bytes.len()..]);
 }
 
 // The number with another field in it, behind which stand `tail` bits.
@@ -77,7 +94,7 @@ fn place_field(bytes: &mut [u8], offset: u32, width: u32, value: u32)
     let end = start + width as usize;
     let first = start / 8;
     let past = (end + 7) / 8;
-    let number = whole_number(bytes, first, past);
+    let number = five_bytes(bytes, first) >> (40 - 8 * (past - first));
     let packed = with_field(number, (8 * past - end) as u32, width, value);
     store_number(&mut bytes[first..past], packed);
 }

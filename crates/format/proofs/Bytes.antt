@@ -12,7 +12,7 @@ length_big (suc n) v = ap suc (length_big n v)
 
 pub get_d_big : (n v k : ℕ) → k < n → get_or (big_endian n v) k 0 ≡ v / 2 ^ (8 * (n - suc k)) % 256
 unfolding big_endian
-get_d_big zero v k h = let z : ⊥ = omega arith in absurd z
+get_d_big zero v k h = absurd (omega arith)
 get_d_big (suc n) v zero h = let e : n ≡ suc n - 1 = omega arith in ap (λ m. v / 2 ^ (8 * m) % 256) e
 get_d_big (suc n) v (suc k) h =
     let e : n - suc k ≡ suc n - suc (suc k) = omega arith in

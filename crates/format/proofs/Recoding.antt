@@ -4,7 +4,8 @@ use Rattle.std.proofs.lemmas.List.{drop-drop, drop_all, get_or-drop, length-drop
 use Rattle.row.specs.declared.faults.Refusal.{Refusal}
 use Rattle.format.specs.Decoding.{map_ok, followed, decode_from, decode}
 use Rattle.format.specs.Encoding.{encode_from, encode}
-use Rattle.format.specs.Reading.{Place, start, record_in, read_at, fault_at, behind, size_of}
+use Rattle.format.specs.Reading.{start, record_in, read_at, fault_at, behind, size_of}
+use Rattle.format.specs.declared.places.Place.{Place}
 use Rattle.format.specs.Records.{Item}
 use Rattle.format.specs.Standing.{Stands, Follows}
 use Rattle.format.specs.declared.records.ReadFault.{ReadFault}
@@ -17,8 +18,8 @@ read_none input p e = by p.ended (record_in (drop p.at input) p.at p.rows p.afte
   where
     by : (b : Bool) (r : Result Item Refusal) → p.ended ≡ b → cond b (Ok None) (fault_at p.at r) ≡ Ok None → p.ended ≡ true
     by true r f h = f
-    by false (Ok i) f h = let n : ◌≡◌ {A = ℕ} 0 1 = cc in let z : ⊥ = omega arith in absurd z
-    by false (Err x) f h = let n : ◌≡◌ {A = ℕ} 0 1 = cc in let z : ⊥ = omega arith in absurd z
+    by false (Ok i) f h = absurd cc
+    by false (Err x) f h = absurd cc
 
 -- a place within the input, at its end once the end record has been read
 pub record Inside (input : List ℕ) (p : Place) : Type 0 where
@@ -34,8 +35,8 @@ module _ (input : List ℕ) (small : (k : ℕ) → get_or input k 0 < 256) where
     where
       by : (b : Bool) (r : Result Item Refusal) → p.ended ≡ b → record_in (drop p.at input) p.at p.rows p.after_row ≡ r
           → cond b (Ok None) (fault_at p.at r) ≡ Ok (Some i) → (p.ended ≡ false) × Taken (drop p.at input) p i
-      by true r f g h = let n : ◌≡◌ {A = ℕ} 0 1 = cc in let z : ⊥ = omega arith in absurd z
-      by false (Err x) f g h = let n : ◌≡◌ {A = ℕ} 0 1 = cc in let z : ⊥ = omega arith in absurd z
+      by true r f g h = absurd cc
+      by false (Err x) f g h = absurd cc
       by false (Ok j) f g h =
           let same : j ≡ i = cc in
           (f, taken (drop p.at input) p i (small_left p.at) (g ∙ ap Ok same))
@@ -88,26 +89,26 @@ recode_step : (input : List ℕ) (p : Place) (items : List Item) (more : Place �
 recode_step input p items more small within later e = by (read_at input p) refl e
   where
     front : (i : Item) (r : Result (List Item) ReadFault) → read_at input p ≡ Ok (Some i) → more (behind p i) ≡ r → map_ok (λ is. i ∷ is) r ≡ Ok items → Recoded input p items
-    front i (Err x) g d k = let m : ◌≡◌ {A = ℕ} 0 1 = cc in let z : ⊥ = omega arith in absurd z
+    front i (Err x) g d k = absurd cc
     front i (Ok is) g d k =
         let all : i ∷ is ≡ items = cc in
         subst (Recoded input p) all (recoded_more input p i is small g (later i is (read_inside input small p i within g) d))
 
     by : (a : Result (Option Item) ReadFault) → read_at input p ≡ a → followed p a more ≡ Ok items → Recoded input p items
-    by (Err x) g k = let m : ◌≡◌ {A = ℕ} 0 1 = cc in let z : ⊥ = omega arith in absurd z
+    by (Err x) g k = absurd cc
     by (Ok None) g k = let none : [] ≡ items = cc in subst (Recoded input p) none (recoded_none input p within g)
     by (Ok (Some i)) g k = front i (more (behind p i)) g refl k
 
 pub recode_from : (reads : ℕ) (input : List ℕ) (p : Place) (items : List Item) → ((k : ℕ) → get_or input k 0 < 256) → length input - p.at < reads → Inside input p
     → decode_from reads input p ≡ Ok items → Recoded input p items
 unfolding decode_from
-recode_from zero input p items small h within e = let z : ⊥ = omega arith in absurd z
+recode_from zero input p items small h within e = absurd (omega arith)
 recode_from (suc n) input p items small h within e =
     recode_step input p items (decode_from n input) small within
     (λ i is next d. recode_from n input (behind p i) is small (omega (arith, size_pos i, next.within)) next d) e
 
 pub inside-start : (input : List ℕ) → Inside input start
-inside-start input = record { within = omega arith; whole = λ l. let n : ◌≡◌ {A = ℕ} 0 1 = cc in omega arith }
+inside-start input = record { within = omega arith; whole = λ l. cc }
 
 -- a line-up that was decoded encodes to the same bytes
 pub encode-decode : (input : List ℕ) (items : List Item) → ((k : ℕ) → get_or input k 0 < 256) → decode input ≡ Ok items → encode items ≡ input

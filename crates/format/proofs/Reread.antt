@@ -1,13 +1,15 @@
 -- A record read back from its bytes. Assumes nothing.
 use Rattle.std.proofs.Common.{◌≡◌, ℕ, ◌+◌, ◌-◌, ◌*◌, ◌%◌, ◌^◌, ◌<◌, ◌≤◌, Bool, true, false, eqb, ltb, leb, List, [], ◌∷◌, ◌++◌, length, take, Ok, sym, refl, ap, ◌∙◌, arith}
 use Rattle.std.proofs.lemmas.List.{take_at, length-append}
-use Rattle.std.proofs.lemmas.Bool.{and_parts, and_from, le-leb, leb-true, ltb-true, ne_eqb, le-ltb, eq-eqb}
+use Rattle.std.proofs.lemmas.Bool.Decides.{nat_tests}
+use Rattle.std.proofs.lemmas.Bool.{and_parts, leb-true, ltb-true, ne_eqb, le-ltb, eq-eqb}
 use Rattle.row.specs.Limits.{within, Limits}
 use Rattle.row.specs.declared.rows.RowNumbers.TheVariants.{Track, Helper}
 use Rattle.fields.specs.Fields.{field}
 use Rattle.fields.proofs.Digits.{field_byte}
 use Rattle.format.specs.Encoding.{number_of, row_fields, record_bytes, row_bytes}
-use Rattle.format.specs.Reading.{Place, record_in, helper_in, track_in, label_in, end_in, as_row, as_label, as_end, good_label, is_end}
+use Rattle.format.specs.Reading.{record_in, helper_in, track_in, label_in, end_in, as_row, as_label, as_end, good_label, is_end}
+use Rattle.format.specs.declared.places.Place.{Place}
 use Rattle.format.specs.Records.{Item, row, label, end}
 use Rattle.format.specs.Standing.{Stands}
 use Rattle.format.proofs.Bytes.{length_big}
@@ -15,17 +17,10 @@ use Rattle.format.proofs.Splitting.{last_field, big_more}
 
 -- numbers that keep the limits
 pub limits_from : (T D C L : ℕ) → within T D C L ≡ true → Limits T D C L
-limits_from T D C L e =
-    let a = and_parts (leb 1 C) _ e in
-    let b = and_parts (leb C L) _ a.1 in
-    let d = and_parts (leb L D) _ b.1 in
-    let f = and_parts (leb D T) _ d.1 in
-    (leb-true 1 C a.0, leb-true C L b.0, leb-true L D d.0, leb-true D T f.0, leb-true T 262143 f.1)
+limits_from T D C L e = grind (arith, nat_tests)
 
 pub limits_to : (T D C L : ℕ) → Limits T D C L → within T D C L ≡ true
-limits_to T D C L h =
-    and_from (leb 1 C) _ (le-leb 1 C h.0) (and_from (leb C L) _ (le-leb C L h.1)
-    (and_from (leb L D) _ (le-leb L D h.2) (and_from (leb D T) _ (le-leb D T h.3) (le-leb T 262143 h.4))))
+limits_to T D C L h = grind (arith, nat_tests)
 
 -- which record it is, by its kind
 module _ (rest : List ℕ) (at rows : ℕ) (after_row : Bool) (some : 1 ≤ length rest) where

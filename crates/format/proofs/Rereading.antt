@@ -4,7 +4,8 @@ use Rattle.std.proofs.lemmas.List.{drop_at, length-append}
 use Rattle.std.proofs.lemmas.Bool.{both_ways, ltb-true}
 use Rattle.format.specs.Decoding.{map_ok, followed, decode_from, decode}
 use Rattle.format.specs.Encoding.{record_bytes, encode_from, encode}
-use Rattle.format.specs.Reading.{Place, start, read_at, fault_at, behind, size_of, is_end, rows_in}
+use Rattle.format.specs.Reading.{start, read_at, fault_at, behind, size_of, is_end, rows_in}
+use Rattle.format.specs.declared.places.Place.{Place}
 use Rattle.format.specs.Records.{Item, row, label, end}
 use Rattle.format.specs.Standing.{Stands, Follows}
 use Rattle.format.proofs.Reread.{reread}
@@ -33,7 +34,7 @@ read_record front more p i s few at last =
 pub reread_from : (reads : ℕ) (front : List ℕ) (p q : Place) (items : List Item) → Follows p items q → q.ended ≡ true → p.rows ≤ 32 → length front ≡ p.at
     → length items < reads → decode_from reads (front ++ encode_from p.rows items) p ≡ Ok items
 unfolding decode_from Follows
-reread_from zero front p q items f e few at h = let z : ⊥ = omega arith in absurd z
+reread_from zero front p q items f e few at h = absurd (omega arith)
 reread_from (suc n) front p q [] f e few at h =
     let ended : p.ended ≡ true = ap (λ r. r.ended) f ∙ e in
     simp ended

@@ -10,7 +10,8 @@ use Rattle.row.specs.declared.rows.RowNumbers.TheVariants.{Track, Helper}
 use Rattle.fields.specs.Fields.{field}
 use Rattle.fields.proofs.Digits.{field_byte, field_join, field_below}
 use Rattle.format.specs.Encoding.{big_endian, number_of, row_fields, record_bytes}
-use Rattle.format.specs.Reading.{Place, record_in, row_in, helper_in, track_in, label_in, end_in, as_row, as_label, as_end, good_label, size_of, is_end}
+use Rattle.format.specs.Reading.{record_in, row_in, helper_in, track_in, label_in, end_in, as_row, as_label, as_end, good_label, size_of, is_end}
+use Rattle.format.specs.declared.places.Place.{Place}
 use Rattle.format.specs.Records.{Item, row, label, end}
 use Rattle.format.specs.Standing.{OffsetKept}
 use Rattle.format.specs.Writing.{RowKept, may_stand}
@@ -27,12 +28,12 @@ pub record Taken (rest : List ℕ) (p : Place) (i : Item) : Type 0 where
 
 -- a test that passed
 not_refused : {X E : Type 0} (b : Bool) (e : E) (r : Result X E) (x : X) → cond b (Err e) r ≡ Ok x → (b ≡ false) × (r ≡ Ok x)
-not_refused true e r x h = let n : ◌≡◌ {A = ℕ} 0 1 = cc in let f : ⊥ = omega arith in absurd f
+not_refused true e r x h = absurd cc
 not_refused false e r x h = (refl, h)
 
 admitted : {X E : Type 0} (b : Bool) (e : E) (r : Result X E) (x : X) → cond b r (Err e) ≡ Ok x → (b ≡ true) × (r ≡ Ok x)
 admitted true e r x h = (refl, h)
-admitted false e r x h = let n : ◌≡◌ {A = ℕ} 0 1 = cc in let f : ⊥ = omega arith in absurd f
+admitted false e r x h = absurd cc
 
 -- numbers that were read as a row
 row_read : (rest : List ℕ) (size filling : ℕ) (numbers : RowNumbers) (rows : ℕ) (i : Item) → as_row (row_in rest size filling numbers rows) ≡ Ok i
@@ -41,7 +42,7 @@ row_read rest size filling numbers rows i e = by (row_in rest size filling numbe
   where
     by : (r : Result RowNumbers Refusal) → row_in rest size filling numbers rows ≡ r → as_row r ≡ Ok i
         → (size ≤ length rest) × (filling ≡ 0) × (keeps numbers ≡ true) × (ltb rows 32 ≡ true) × (row numbers ≡ i)
-    by (Err f) g h = let n : ◌≡◌ {A = ℕ} 0 1 = cc in let b : ⊥ = omega arith in absurd b
+    by (Err f) g h = absurd cc
     by (Ok n) g h =
         let a = not_refused (ltb (length rest) size) InputEnds _ n g in
         let b = admitted (eqb filling 0) FillingNotZero _ n a.1 in
@@ -65,7 +66,7 @@ module _ (rest : List ℕ) (p : Place) (i : Item) (small : (k : ℕ) → get_or 
         placed = r.3;
         kept = r.2;
         offset = tt;
-        alone = λ z. let n : ◌≡◌ {A = ℕ} 0 1 = cc in omega arith;
+        alone = λ z. cc;
       })
 
   track-taken : field rest 0 3 ≡ 1 → as_row (track_in rest p.rows) ≡ Ok i → Taken rest p i
@@ -81,7 +82,7 @@ module _ (rest : List ℕ) (p : Place) (i : Item) (small : (k : ℕ) → get_or 
         placed = r.3;
         kept = r.2;
         offset = tt;
-        alone = λ z. let n : ◌≡◌ {A = ℕ} 0 1 = cc in omega arith;
+        alone = λ z. cc;
       })
 
 -- the first byte is the kind and the 5 bits behind it
@@ -100,7 +101,7 @@ label-made b more p n small kind count h good =
       placed = and_from (leb (length (take n more)) 31) _ (le-leb (length (take n more)) 31 (omega arith)) good;
       kept = tt;
       offset = refl;
-      alone = λ z. let n : ◌≡◌ {A = ℕ} 0 1 = cc in omega arith;
+      alone = λ z. cc;
     }
 
 label-taken : (b : ℕ) (more : List ℕ) (p : Place) (i : Item) → b < 256 → field (b ∷ more) 0 3 ≡ 2 → as_label p.at (label_in (b ∷ more) p.after_row) ≡ Ok i
@@ -108,7 +109,7 @@ label-taken : (b : ℕ) (more : List ℕ) (p : Place) (i : Item) → b < 256 →
 label-taken b more p i small kind e = by (label_in (b ∷ more) p.after_row) refl e
   where
     by : (r : Result (List ℕ) Refusal) → label_in (b ∷ more) p.after_row ≡ r → as_label p.at r ≡ Ok i → Taken (b ∷ more) p i
-    by (Err f) g h = let n : ◌≡◌ {A = ℕ} 0 1 = cc in let b : ⊥ = omega arith in absurd b
+    by (Err f) g h = absurd cc
     by (Ok bytes) g h =
         let a = not_refused (ltb (length (b ∷ more)) (1 + field (b ∷ more) 3 5)) InputEnds _ bytes g in
         let d = admitted (good_label (take (field (b ∷ more) 3 5) more) p.after_row) BadLabel _ bytes a.1 in
@@ -121,7 +122,7 @@ end-taken : (b : ℕ) (more : List ℕ) (p : Place) (i : Item) → b < 256 → f
 end-taken b more p i small kind e = by (end_in (b ∷ more) p.rows) refl e
   where
     by : (r : Result (Unit {0}) Refusal) → end_in (b ∷ more) p.rows ≡ r → as_end r ≡ Ok i → Taken (b ∷ more) p i
-    by (Err f) g h = let n : ◌≡◌ {A = ℕ} 0 1 = cc in let b : ⊥ = omega arith in absurd b
+    by (Err f) g h = absurd cc
     by (Ok u) g h =
         let a = admitted (eqb (field (b ∷ more) 3 5 + 1) p.rows) WrongCount _ u g in
         let d = not_refused (ltb 1 (length (b ∷ more))) AfterEnd _ u a.1 in
@@ -134,7 +135,7 @@ end-taken b more p i small kind e = by (end_in (b ∷ more) p.rows) refl e
 
 -- every record that is read
 pub taken : (rest : List ℕ) (p : Place) (i : Item) → ((k : ℕ) → get_or rest k 0 < 256) → record_in rest p.at p.rows p.after_row ≡ Ok i → Taken rest p i
-taken [] p i small e = let n : ◌≡◌ {A = ℕ} 0 1 = cc in let b : ⊥ = omega arith in absurd b
+taken [] p i small e = absurd cc
 taken (x ∷ xs) p i small e =
     let kind : ℕ = field (x ∷ xs) 0 3 in
     by (eqb kind 0) (eqb kind 1) (eqb kind 2) (eqb kind 3) refl refl refl refl (not_refused (eqb (length (x ∷ xs)) 0) InputEnds _ i e).1
@@ -147,4 +148,4 @@ taken (x ∷ xs) p i small e =
     by false true c d ea eb ec ed h = track-taken (x ∷ xs) p i small (eqb-true (field (x ∷ xs) 0 3) 1 eb) h
     by false false true d ea eb ec ed h = label-taken x xs p i (small 0) (eqb-true (field (x ∷ xs) 0 3) 2 ec) h
     by false false false true ea eb ec ed h = end-taken x xs p i (small 0) (eqb-true (field (x ∷ xs) 0 3) 3 ed) h
-    by false false false false ea eb ec ed h = let n : ◌≡◌ {A = ℕ} 0 1 = cc in let b : ⊥ = omega arith in absurd b
+    by false false false false ea eb ec ed h = absurd cc

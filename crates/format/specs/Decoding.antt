@@ -1,7 +1,8 @@
 -- Decoding a whole line-up, record by record. Assumes nothing.
 use Rattle.std.specs.Prelude.{ℕ, zero, suc, ◌+◌, List, [], ◌∷◌, length, Some, None, Ok, Err, Option, Result}
 use Rattle.row.specs.declared.rows.RowNumbers.{RowNumbers}
-use Rattle.format.specs.Reading.{Place, start, read_at, behind}
+use Rattle.format.specs.Reading.{start, read_at, behind}
+use Rattle.format.specs.declared.places.Place.{Place}
 use Rattle.format.specs.Records.{Item, row, label, end}
 use Rattle.format.specs.declared.records.ReadFault.{ReadFault}
 

@@ -1,11 +1,13 @@
 -- Decoding one record. `rest` is what is left of the input, from the record's first byte on. Assumes nothing.
-use Rattle.std.specs.Prelude.{ℕ, ◌+◌, Bool, true, false, cond, ◌&&◌, List, [], ◌∷◌, length, take, drop, Some, None, Ok, Err, Option, Result, ◌==◌, nat_le, nat_lt}
+use Rattle.std.specs.Prelude.{ℕ, ◌+◌, ◌%◌, ◌^◌, Bool, true, false, cond, ◌&&◌, List, length, take, drop, Some, None, Ok, Err, Option, Result, ◌==◌, nat_le, nat_lt}
+use Rattle.std.specs.List.{list_all}
 use Rattle.row.specs.Rows.{keeps}
 use Rattle.row.specs.declared.faults.Refusal.{Refusal}
 use Rattle.row.specs.declared.faults.Refusal.TheVariants.{UnknownKind, InputEnds, FillingNotZero, BadLabel, OutsideLimits, TooManyRows, WrongCount, AfterEnd}
 use Rattle.row.specs.declared.rows.RowNumbers.{RowNumbers}
 use Rattle.row.specs.declared.rows.RowNumbers.TheVariants.{Track, Helper}
 use Rattle.fields.specs.Fields.{field}
+use Rattle.format.specs.declared.places.Place.{Place}
 use Rattle.format.specs.declared.records.ReadFault.{ReadFault}
 use Rattle.format.specs.Records.{Item, row, label, end}
 
@@ -35,8 +37,7 @@ abbrev pub printable : ℕ → Bool
 printable b = nat_le 0x20 b && nat_le b 0x7e
 
 abbrev pub all_printable : List ℕ → Bool
-all_printable [] = true
-all_printable (b ∷ bs) = printable b && all_printable bs
+all_printable bs = list_all printable bs
 
 -- a label has 1 to 31 bytes from 20 to 7E (hexadecimal) and stands directly behind a row
 abbrev pub good_label : List ℕ → Bool → Bool
@@ -97,20 +98,16 @@ is_end (row n) = false
 is_end (label offset bytes) = false
 is_end end = true
 
--- where the reader stands: the offset of the next record, how many rows came before it,
--- whether a row came directly before it, and whether the end record has been read
-pub record Place : Type 0 where
-  pub at : ℕ
-  pub rows : ℕ
-  pub after_row : Bool
-  pub ended : Bool
-
 abbrev pub start : Place
 start = record { at = 0; rows = 0; after_row = false; ended = false }
 
 -- where the reader stands behind a record
 abbrev pub behind : Place → Item → Place
 behind p i = record { at = p.at + size_of i; rows = p.rows + rows_in i; after_row = is_row i; ended = is_end i }
+
+-- a place with numbers of 64 bits
+abbrev pub wrapped : Place → Place
+wrapped p = record p { at = p.at % 2 ^ 64; rows = p.rows % 2 ^ 64 }
 
 -- the record, or the fault at the offset of the record
 abbrev pub fault_at : ℕ → Result Item Refusal → Result (Option Item) ReadFault

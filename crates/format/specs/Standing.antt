@@ -1,6 +1,7 @@
 -- Which records stand behind one another in a line-up. Assumes nothing.
 use Rattle.std.specs.Prelude.{◌≡◌, ◌+◌, true, false, List, [], ◌∷◌}
-use Rattle.format.specs.Reading.{Place, behind}
+use Rattle.format.specs.Reading.{behind}
+use Rattle.format.specs.declared.places.Place.{Place}
 use Rattle.format.specs.Records.{Item, row, label, end}
 use Rattle.format.specs.Writing.{RowKept, may_stand}
 

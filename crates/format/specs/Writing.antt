@@ -5,7 +5,8 @@ use Rattle.row.specs.declared.faults.Refusal.{Refusal}
 use Rattle.row.specs.declared.faults.Refusal.TheVariants.{BadLabel, TooManyRows, WrongCount, AfterEnd, NoRoom}
 use Rattle.format.specs.Decoding.{map_ok}
 use Rattle.format.specs.Encoding.{record_bytes, overwritten}
-use Rattle.format.specs.Reading.{Place, behind, size_of, good_label}
+use Rattle.format.specs.Reading.{behind, size_of, good_label}
+use Rattle.format.specs.declared.places.Place.{Place}
 use Rattle.format.specs.Records.{Item, row, label, end}
 use Rattle.format.specs.declared.records.WriteFault.{WriteFault}
 

@@ -3,8 +3,10 @@
 
 mod faults;
 mod labels;
+mod places;
 mod records;
 mod sizes;
 
 pub use labels::good_label;
+pub use places::Place;
 pub use records::{ReadFault, Record, WriteFault};

@@ -4,7 +4,8 @@ use Rattle.std.proofs.lemmas.List.{drop-drop, drop_at, take_at, take_all, length
 use Rattle.std.proofs.lemmas.Bool.{le-ltb}
 use Rattle.format.specs.Decoding.{map_ok, followed, decode_from, decode}
 use Rattle.format.specs.Encoding.{record_bytes, overwritten}
-use Rattle.format.specs.Reading.{Place, start, read_at, behind, size_of}
+use Rattle.format.specs.Reading.{start, read_at, behind, size_of}
+use Rattle.format.specs.declared.places.Place.{Place}
 use Rattle.format.specs.Records.{Item}
 use Rattle.format.specs.Standing.{OffsetKept}
 use Rattle.format.specs.Writing.{RowKept, write_at}
@@ -32,7 +33,7 @@ copied_none input old fits small e =
 step : (input : List ℕ) (p : Place) (reads : ℕ) → length input - p.at < reads → is_ok (decode_from reads input p) ≡ true
     → (n : ℕ) × (length input - p.at ≤ n) × (is_ok (followed p (read_at input p) (decode_from n input)) ≡ true)
 unfolding decode_from
-step input p zero h l = let z : ⊥ = omega arith in absurd z
+step input p zero h l = absurd (omega arith)
 step input p (suc n) h l = (n, omega arith, l)
 
 ok_mapped : {X Y E : Type 0} (f : X → Y) (r : Result X E) → is_ok (map_ok f r) ≡ is_ok r
@@ -45,7 +46,7 @@ module _ (input old buffer : List ℕ) (p : Place) (c : Copied input old buffer 
   no_fault e h =
       let s = step input p c.reads c.enough c.left in
       let false-true : false ≡ true = ap (λ r. is_ok (followed p r (decode_from s.0 input))) h ∙ s.2 in
-      let n : ◌≡◌ {A = ℕ} 0 1 = cc in omega arith
+      cc
 
   -- behind the last record the whole input is copied
   pub copied_all : Ok None ≡ read_at input p → buffer ≡ copied_over input old
@@ -109,4 +110,4 @@ module _ (input old buffer : List ℕ) (p : Place) (c : Copied input old buffer 
 pub reads_answer : {Y : Type 0} (f : List Item → Y) (y : Y) (r : Result (List Item) ReadFault) (size space : ℕ) → Ok y ≡ map_ok f r
     → cond (ltb space size) (Err (no_room space)) (Ok size) ≡ copy_answer r size space
 reads_answer f y (Ok items) size space e = refl
-reads_answer f y (Err x) size space e = let n : ◌≡◌ {A = ℕ} 0 1 = cc in let z : ⊥ = omega arith in absurd z
+reads_answer f y (Err x) size space e = absurd cc

@@ -8,9 +8,9 @@ ghost use Rattle.format.specs.Writing.{RowKept, write_at};
 ghost use Rattle.writer.specs.Writers.{place_of, buffer_of, Wrote};
 ghost use Rattle.lineup.specs.Copying.{copy_answer, copied_over, output_after};
 
-use format::Record;
+use format::{Record, WriteFault};
 use reader::{Reader, read_rows};
-use row::{Fault, Layer, Refusal, Row};
+use row::{Fault, Refusal, Row};
 use writer::Writer;
 
 // Reads a line-up and writes its records to the output, which then begins with the same bytes.
@@ -23,11 +23,11 @@ pub fn copy(input: &[u8], output: &mut [u8]) -> Result<usize, Fault>
     read_rows(input)?;
     let space = output.len();
     if space < input.len() {
-        return Err(Fault {
+        return Err(WriteFault {
             refusal: Refusal::NoRoom,
-            layer: Layer::Writer,
-            place: space as u64,
-        });
+            place: space,
+        }
+        .into());
     }
     copy_records(input, output)?;
     Ok(input.len())
@@ -54,11 +54,10 @@ fn put_record(writer: &mut Writer<'_>, seen: &Record<'_>) -> Result<(), Fault>
     requires taken { Ok tt ≡ write_at (length (buffer_of writer.old)) (place_of writer.old) (item_of seen.now) }
     ensures answer { result ≡ Ok tt }
     ensures wrote { Wrote writer.old writer.new (item_of seen.now) (Ok tt) }
-    ensures same { writer.new.buffer.ghost_name ≡ writer.old.buffer.ghost_name }
 {
     match seen {
         Record::Row(numbers) => {
-            let row = Row::new(*numbers)?;
+            let row = Row::try_from(*numbers)?;
             writer.put(&row)?;
         }
         Record::Label { bytes, .. } => {

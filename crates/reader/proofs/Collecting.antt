@@ -2,7 +2,8 @@
 use Rattle.std.proofs.Common.{◌≡◌, ℕ, zero, suc, ◌+◌, ◌-◌, ◌<◌, ◌≤◌, List, [], ◌∷◌, ◌++◌, length, Some, None, Ok, Err, Option, Result, sym, refl, ap, ◌∙◌, append_assoc, append-nil, arith}
 use Rattle.row.specs.declared.rows.RowNumbers.{RowNumbers}
 use Rattle.format.specs.Decoding.{map_ok, followed, decode_from, decode, rows_among}
-use Rattle.format.specs.Reading.{Place, start, read_at, behind, size_of}
+use Rattle.format.specs.Reading.{start, read_at, behind, size_of}
+use Rattle.format.specs.declared.places.Place.{Place}
 use Rattle.format.specs.Records.{Item, row, label, end}
 use Rattle.format.specs.declared.records.ReadFault.{ReadFault}
 use Rattle.format.proofs.Lengths.{size_pos}
@@ -35,7 +36,7 @@ step : (input : List ℕ) (p : Place) (rows : List RowNumbers) (reads : ℕ) →
     → (n : ℕ) × (length input - p.at ≤ n)
     × (map_ok (λ is. rows ++ rows_among is) (followed p (read_at input p) (decode_from n input)) ≡ map_ok rows_among (decode input))
 unfolding decode_from
-step input p rows zero h l = let z : ⊥ = omega arith in absurd z
+step input p rows zero h l = absurd (omega arith)
 step input p rows (suc n) h l = (n, omega arith, l)
 
 module _ (input : List ℕ) (p : Place) (rows : List RowNumbers) (c : Collecting input p rows) where

@@ -1,2 +1,1 @@
-pub mod Rest
 pub mod Collecting

@@ -1,14 +1,14 @@
 -- What a reader holds, and its answers by what they say. Assumes nothing.
 use Rattle.std.specs.Prelude.{ℕ, List, Some, None, Ok, Err, Option, Result}
 use Rattle.row.specs.declared.faults.Refusal.{Refusal}
-use Rattle.format.specs.Reading.{Place}
+use Rattle.format.specs.declared.places.Place.{Place}
 use Rattle.format.specs.Records.{Item, item_of}
 use Rattle.format.specs.declared.records.ReadFault.{ReadFault}
 use Rattle.format.specs.declared.records.Record.{Record}
 use Rattle.reader.specs.declared.reader.Reader.{Reader}
 
 abbrev pub place_of : Reader → Place
-place_of r = record { at = r.at; rows = r.rows; after_row = r.after_row; ended = r.ended }
+place_of r = r.place
 
 abbrev pub input_of : Reader → List ℕ
 input_of r = r.input.now

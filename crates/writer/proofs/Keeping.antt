@@ -7,7 +7,8 @@ use Rattle.row.specs.declared.rows.Row.{Row}
 use Rattle.row.specs.declared.rows.Row.TheVariants.{Track, Helper}
 use Rattle.format.specs.Decoding.{decode, map_ok}
 use Rattle.format.specs.Encoding.{record_bytes, encode_from, overwritten}
-use Rattle.format.specs.Reading.{Place, start, behind, size_of, rows_in}
+use Rattle.format.specs.Reading.{start, behind, size_of, rows_in}
+use Rattle.format.specs.declared.places.Place.{Place}
 use Rattle.format.specs.Records.{Item, end}
 use Rattle.format.specs.Standing.{Stands, Follows, OffsetKept}
 use Rattle.format.specs.Writing.{RowKept, may_stand, write_at}
@@ -40,9 +41,9 @@ accepted space p i u e = by p.ended (may_stand p i) (ltb space (p.at + size_of i
   where
     by : (a b d : Bool) (x y z : WriteFault) → p.ended ≡ a → may_stand p i ≡ b → ltb space (p.at + size_of i) ≡ d
         → Ok u ≡ cond a (Err x) (cond b (cond d (Err y) (Ok tt)) (Err z)) → (p.ended ≡ false) × (may_stand p i ≡ true) × (p.at + size_of i ≤ space)
-    by true b d x y z f g k h = let n : ◌≡◌ {A = ℕ} 0 1 = cc in let b : ⊥ = omega arith in absurd b
-    by false false d x y z f g k h = let n : ◌≡◌ {A = ℕ} 0 1 = cc in let b : ⊥ = omega arith in absurd b
-    by false true true x y z f g k h = let n : ◌≡◌ {A = ℕ} 0 1 = cc in let b : ⊥ = omega arith in absurd b
+    by true b d x y z f g k h = absurd cc
+    by false false d x y z f g k h = absurd cc
+    by false true true x y z f g k h = absurd cc
     by false true false x y z f g k h = (f, g, ltb-false space (p.at + size_of i) k)
 
 -- the front of a buffer with a piece written behind it
@@ -61,27 +62,27 @@ long_same buffer piece at size long h = simp (length-append, length-take, length
 module _ (before after : Writer) (i : Item) (items : List Item) (kept : RowKept i) (offset : OffsetKept (place_of before) i) (h : Holds before items) where
   pub holds_more : (r : Result (Unit {0}) WriteFault) → Wrote before after i r → HoldsMore r after items i
   holds_more (Err e) w =
-      let at : after.at ≡ before.at = ap (λ p. p.at) w.place in
+      let at : after.place.at ≡ before.place.at = ap (λ p. p.at) w.place in
       record {
-        bytes = ap (λ n. take n (buffer_of after)) at ∙ ap (take before.at) w.buffer ∙ h.bytes;
+        bytes = ap (λ n. take n (buffer_of after)) at ∙ ap (take before.place.at) w.buffer ∙ h.bytes;
         follows = subst (Follows start items) (sym w.place) h.follows;
         within = omega (arith, ap length w.buffer, h.within);
       }
   holds_more (Ok u) w =
       let p : Place = place_of before in
       let ok = accepted (length (buffer_of before)) p i u w.answer in
-      let at : after.at ≡ before.at + size_of i = ap (λ q. q.at) w.place in
-      let piece : List ℕ = record_bytes before.rows i in
-      let long : length piece ≡ size_of i = record_long before.rows i in
-      let front : take (before.at + size_of i) (buffer_of after) ≡ take before.at (buffer_of before) ++ piece =
-      ap (take (before.at + size_of i)) w.buffer ∙ front_more (buffer_of before) piece before.at (size_of i) long ok.2 in
+      let at : after.place.at ≡ before.place.at + size_of i = ap (λ q. q.at) w.place in
+      let piece : List ℕ = record_bytes before.place.rows i in
+      let long : length piece ≡ size_of i = record_long before.place.rows i in
+      let front : take (before.place.at + size_of i) (buffer_of after) ≡ take before.place.at (buffer_of before) ++ piece =
+      ap (take (before.place.at + size_of i)) w.buffer ∙ front_more (buffer_of before) piece before.place.at (size_of i) long ok.2 in
       record {
         bytes =
             ap (λ n. take n (buffer_of after)) at ∙ front ∙ ap (λ bs. bs ++ piece) h.bytes
             ∙ sym (encode_more start p items i h.follows);
         follows = subst (Follows start (items ++ i ∷ [])) (sym w.place)
             (follows_more start p items i h.follows (record { unended = ok.0; placed = ok.1; kept = kept; offset = offset }));
-        within = omega (arith, ap length w.buffer, long_same (buffer_of before) piece before.at (size_of i) long ok.2);
+        within = omega (arith, ap length w.buffer, long_same (buffer_of before) piece before.place.at (size_of i) long ok.2);
       }
 
 -- finishing: the writer holds the end record too, and the line-up decodes to what was put
@@ -89,15 +90,15 @@ module _ (before after : Writer) (items : List Item) (h : Holds before items) (r
   finish_both : (HoldsMore r after items end) × ReadsBack r after items
   finish_both = by (write_at (length (buffer_of before)) (place_of before) end) r f.answer f.wrote
     where
-      by : (a : Result (Unit {0}) WriteFault) (r : Result ℕ WriteFault) → r ≡ map_ok (λ u. before.at + 1) a → Wrote before after end a
+      by : (a : Result (Unit {0}) WriteFault) (r : Result ℕ WriteFault) → r ≡ map_ok (λ u. before.place.at + 1) a → Wrote before after end a
           → (HoldsMore r after items end) × ReadsBack r after items
       by (Ok u) (Ok n) e w =
           let all : Holds after (items ++ end ∷ []) = holds_more before after end items tt tt h (Ok u) w in
-          let long : n ≡ after.at = let x : n ≡ before.at + 1 = cc in omega (arith, ap (λ p. p.at) w.place) in
+          let long : n ≡ after.place.at = let x : n ≡ before.place.at + 1 = cc in omega (arith, ap (λ p. p.at) w.place) in
           (all, ap (λ k. decode (take k (buffer_of after))) long ∙ ap decode all.bytes ∙ decode-encode (items ++ end ∷ []) (place_of after) all.follows (ap (λ p. p.ended) w.place))
       by (Err x) (Err y) e w = (holds_more before after end items tt tt h (Err x) w, tt)
-      by (Ok u) (Err y) e w = let n : ◌≡◌ {A = ℕ} 0 1 = cc in let b : ⊥ = omega arith in absurd b
-      by (Err x) (Ok n) e w = let n : ◌≡◌ {A = ℕ} 0 1 = cc in let b : ⊥ = omega arith in absurd b
+      by (Ok u) (Err y) e w = absurd cc
+      by (Err x) (Ok n) e w = absurd cc
 
   pub finish-holds : HoldsMore r after items end
   finish-holds = finish_both.0
@@ -109,7 +110,7 @@ module _ (before after : Writer) (items : List Item) (h : Holds before items) (r
 pub holds_none : (w : Writer) → place_of w ≡ start → Holds w []
 unfolding Follows
 holds_none w e =
-    let at : w.at ≡ 0 = ap (λ p. p.at) e in
+    let at : w.place.at ≡ 0 = ap (λ p. p.at) e in
     record { bytes = ap (λ n. take n (buffer_of w)) at; follows = sym e; within = omega arith }
 
 -- a row's type says that it keeps the limits

@@ -11,9 +11,9 @@ use Rattle.writer.specs.declared.writer.Writer.{Writer}
 
 -- the bytes before the writer's place are those of the records, each of which may stand where it stands
 pub record Holds (w : Writer) (items : List Item) : Type 0 where
-  pub bytes : take w.at (buffer_of w) ≡ encode items
+  pub bytes : take w.place.at (buffer_of w) ≡ encode items
   pub follows : Follows start items (place_of w)
-  pub within : w.at ≤ length (buffer_of w)
+  pub within : w.place.at ≤ length (buffer_of w)
 
 -- after a write the writer holds one record more, and after a refusal the same records
 abbrev pub HoldsMore : {X : Type 0} → Result X WriteFault → Writer → List Item → Item → Type 0

@@ -1,5 +1,5 @@
 // Whole records packed at the front of a buffer.
-ghost use Rattle.std.specs.Prelude.{◌≡◌, ◌+◌, ◌*◌, ◌≤◌, true, ◌++◌, length, drop};
+ghost use Rattle.std.specs.Prelude.{◌≡◌, ℕ, ◌+◌, ◌*◌, ◌≤◌, true, ◌++◌, length, drop};
 ghost use Rattle.std.specs.List.{AllByRecursion};
 ghost use Rattle.row.specs.Rows.{keeps};
 ghost use Rattle.format.specs.Encoding.{number_of, bits_of, big_endian, FieldFits, row_bytes, label_bytes, end_bytes, record_bytes, Encodable, overwritten};
@@ -11,17 +11,18 @@ use format::Record;
 use row::RowNumbers;
 
 // Packs fields of (width, value) behind one another. Together they take whole bytes.
-fn pack_fields(bytes: &mut [u8], fields: &[(u32, u32)], size: usize)
+fn pack_fields(bytes: &mut [u8], fields: &[(u32, u32)])
+    ghost size: { ℕ }
     requires each { AllByRecursion FieldFits fields.now }
     requires whole { (bits_of fields.now ≡ 8 * size) × (size ≤ 10) }
     requires within { size ≤ length bytes.old }
     ensures { bytes.new ≡ big_endian size (number_of fields.now) ++ drop size bytes.old }
 {
     let mut offset = 0;
-    for field in fields {
+    for &(width, value) in fields {
         // each field fits, so that none is left out
-        pack_field(bytes, offset, field.0, field.1);
-        offset += field.0;
+        pack_field(bytes, offset, width, value);
+        offset += width;
     }
 }
 
@@ -37,7 +38,7 @@ fn pack_row(bytes: &mut [u8], numbers: &RowNumbers)
             short,
         } => {
             let fields = [(3, 0), (18, period), (18, deadline), (18, short), (7, 0)];
-            pack_fields(bytes, &fields, 8);
+            pack_fields(bytes, &fields);
         }
         RowNumbers::Track {
             period,
@@ -53,7 +54,7 @@ fn pack_row(bytes: &mut [u8], numbers: &RowNumbers)
                 (18, long),
                 (5, 0),
             ];
-            pack_fields(bytes, &fields, 10);
+            pack_fields(bytes, &fields);
         }
     }
 }

@@ -1,14 +1,14 @@
 // The writer's state.
+ghost use Rattle.std.specs.Prelude.{◌≤◌, length};
+
+use format::Place;
 
 // Writes a line-up to the caller's buffer, one record behind the other.
 #[derive(Drop)]
 pub struct Writer<'a> {
     pub(crate) buffer: &'a mut [u8],
-    // how many bytes are written
-    pub(crate) at: usize,
-    // how many rows were put
-    pub(crate) rows: usize,
-    // whether the last record was a row, so that a label may follow
-    pub(crate) after_row: bool,
-    pub(crate) finished: bool,
+    // behind the last record
+    pub(crate) place: Place,
+    ghost within: { place.at ≤ length buffer.now },
+    ghost few: { place.rows ≤ 32 },
 }

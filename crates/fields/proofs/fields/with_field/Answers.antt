@@ -1,6 +1,6 @@
 use Rattle.std.proofs.Common.{◌≡◌, ◌*◌, ◌%◌, ◌^◌, ap, ◌∙◌, arith}
 use Rattle.std.proofs.lemmas.Nat.{shl_whole}
-use Rattle.fields.proofs.Packing.{number_parts, old_field, with_field_is, value_small}
+use Rattle.fields.proofs.Packing.{number_parts, old_field, with_field_is}
 use Rattle.fields.proofs.fields.with_field.Goals as goal
 use Rattle.fields.proofs.fields.with_field.Goals.{After-from}
 
@@ -14,10 +14,6 @@ pub overflow_sub-result : goal.overflow_sub-result
 overflow_sub-result c =
     rw (old_field c.args.number c.args.tail c.args.width (omega arith) (omega arith))
     (omega (arith, number_parts c.args.number c.args.tail c.args.width))
-
-pub overflow_add-result : goal.overflow_add-result
-overflow_add-result c =
-    omega (arith, new_field c, value_small c.args.value c.args.tail c.args.width c.requires.fits (omega arith) (omega arith))
 
 pub returns : goal.returns
 returns c =

@@ -77,7 +77,7 @@ loop-seen-preserved c =
     c.put_record.ensures.wrote.buffer ∙ ap (λ p. overwritten buffer p.at (record_bytes p.rows item)) c.loop-seen.invariant.1 in (
       c.next.ensures.input ∙ c.loop-seen.invariant.0,
       c.put_record.ensures.wrote.place ∙ ap (λ p. behind p item) c.loop-seen.invariant.1 ∙ sym (behind_seen here),
-      c.put_record.ensures.same ∙ c.loop-seen.invariant.2,
+      c.put_record.ensures.wrote.same ∙ c.loop-seen.invariant.2,
       subst (Copied input old (buffer_of c.put_record.new.writer)) (sym (behind_seen here))
           (copied_more input old buffer place c.loop-seen.invariant.3 item (seen_at here) (buffer_of c.put_record.new.writer) written),
     )

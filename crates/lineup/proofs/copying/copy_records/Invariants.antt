@@ -11,4 +11,4 @@ invariant-loop-seen l =
     × Copied l.input (buffer_of l.initial.writer) (buffer_of l.writer) (readerPlace l.reader)
 
 abbrev pub decreases-loop-seen : goal.decreases-loop-seen
-decreases-loop-seen l = length l.input - l.reader.at
+decreases-loop-seen l = length l.input - l.reader.place.at

@@ -4,15 +4,8 @@ use Rattle.format.specs.Reading.{read_at, place_after, behind, size_of}
 use Rattle.format.specs.Records.{item_of}
 use Rattle.reader.specs.Readers.{place_of, input_of, answer_of}
 use Rattle.reader.specs.RowLists.{rows_of}
-use Rattle.reader.proofs.Collecting.{Collecting, collect_none, collect_more, collect_fault, collect_all}
+use Rattle.reader.proofs.Collecting.{Collecting, collect_more, collect_fault, collect_all}
 use Rattle.reader.proofs.whole.read_rows.Goals as goal
-
-pub loop-seen-init : goal.loop-seen-init
-loop-seen-init c = (
-  c.new-reader.ensures.input,
-  c.new-rows.ensures.count ∙ sym (ap (λ p. p.rows) c.new-reader.ensures.place),
-  subst₂ (λ p rows. Collecting c.args.input.now p rows) (sym c.new-reader.ensures.place) (sym c.new-rows.ensures.rows) (collect_none c.args.input.now),
-)
 
 pub returns-in_err-seen : goal.returns-in_err-seen
 returns-in_err-seen c =

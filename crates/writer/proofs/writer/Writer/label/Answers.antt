@@ -4,12 +4,8 @@ use Rattle.writer.specs.Writers.{place_of, Wrote}
 use Rattle.writer.proofs.Keeping.{holds_more}
 use Rattle.writer.proofs.writer.Writer.label.Goals as goal
 
-pub returns : goal.returns
-returns c =
+pub returns-clause-holds : goal.returns-clause-holds
+returns-clause-holds c =
     let item = label_item (place_of c.args.self.now) c.args.bytes.now in
     let wrote : Wrote c.args.self.now c.write.new.self item c.write.result = search rules in
-    record {
-      wrote = wrote;
-      same = search rules;
-      holds = λ items h. holds_more c.args.self.now c.write.new.self item items tt refl h c.write.result wrote;
-    }
+    λ items h. holds_more c.args.self.now c.write.new.self item items tt refl h c.write.result wrote
