@@ -1,7 +1,7 @@
 -- The greatest value, instant by instant. Assumes nothing.
-use Rattle.std.proofs.Common.{◌≡◌, ℕ, ◌+◌, ◌<◌, ◌≤◌, max, sym, refl, subst, inl, inr, arith}
+use Rattle.std.proofs.Common.{◌≡◌, ℕ, ◌+◌, ◌<◌, ◌≤◌, max, Some, None, Option, sym, refl, subst, inl, inr, arith}
 use Rattle.std.proofs.lemmas.Bool.{cases_lt}
-use Rattle.judge.specs.Bounds.{Greatest}
+use Rattle.judge.specs.Bounds.{FoundUpTo, Greatest, GreatestAnswer}
 
 -- m is the greatest value below n, and 0 where there is none yet
 pub record SoFar (n : ℕ) (Value : ℕ → ℕ → Type 0) (m : ℕ) : Type 0 where
@@ -38,3 +38,20 @@ module _ (Value : ℕ → ℕ → Type 0) where
 
   pub greatest : (n m : ℕ) → 1 ≤ n → SoFar n Value m → Greatest n Value m
   greatest n m some far = record { each = far.each; some = far.some some }
+
+-- where the answers at the instants find values up to D, or miss them, so does the greatest of them
+pub greatest-found : {n : ℕ} {Answer : ℕ → Option ℕ → Type 0} (D : ℕ) (Value : ℕ → ℕ → Type 0) →
+    ((s : ℕ) (o : Option ℕ) → s < n → Answer s o → FoundUpTo D (Value s) o) → (o : Option ℕ) → GreatestAnswer n Answer o → FoundUpTo D (Greatest n Value) o
+greatest-found D Value found None g = λ m h most.
+    let missed = g.is in
+    let v = most.each missed.0 missed.1 in
+    found missed.0 None missed.1 missed.2 v.0 (let le = v.2 in omega arith) v.1
+greatest-found D Value found (Some m) g =
+    let top = g.is.some in
+    let last = found top.0 (Some m) top.1 top.2 in (
+      record {
+        each = λ s below. let old = g.is.each s below in (old.0, (found s (Some old.0) below old.1).0, old.2);
+        some = (top.0, top.1, last.0);
+      },
+      last.1,
+    )

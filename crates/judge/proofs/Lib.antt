@@ -3,7 +3,6 @@ pub mod Leasts
 pub mod Greatests
 pub mod Uniques
 pub mod Lates
-pub mod Fronts
 pub mod Made
 pub mod SameRows
 pub mod Accepting

@@ -1,6 +1,6 @@
 -- The three bounds of a row, as relations: what it is to be the bound. `above` lists the rows above the row, from row 0.
 -- Assumes nothing.
-use Rattle.std.specs.Prelude.{◌≡◌, ℕ, ◌-◌, ◌<◌, ◌≤◌, max, List, Option, MatchOption}
+use Rattle.std.specs.Prelude.{◌≡◌, ℕ, ◌-◌, ◌<◌, ◌≤◌, max, List, Some, None, Option, MatchOption}
 use Rattle.row.specs.declared.rows.Row.{Row}
 use Rattle.judge.specs.Demand.{demand_by, normal_demand, late_demand, start_demand}
 
@@ -25,6 +25,10 @@ LeastUpTo n P o = MatchOption o (NoneUpTo n P) (λ t. Least P t × (t ≤ n))
 pub record Greatest (n : ℕ) (Value : ℕ → ℕ → Type 0) (m : ℕ) : Type 0 where
   pub each : (s : ℕ) → s < n → (v : ℕ) × Value s v × (v ≤ m)
   pub some : (s : ℕ) × (s < n) × Value s m
+
+-- what is answered for the instants below n, by the answer at each: none where one of them is none, and else the greatest of them
+pub record GreatestAnswer (n : ℕ) (Answer : ℕ → Option ℕ → Type 0) (o : Option ℕ) : Type 0 where
+  pub is : MatchOption o ((s : ℕ) × (s < n) × Answer s None) (Greatest n (λ s v. Answer s (Some v)))
 
 -- a window of length t has room for its own demand
 abbrev pub HasRoom : (ℕ → Row → ℕ) → List Row → ℕ → ℕ → Type 0

@@ -6,7 +6,7 @@ use Rattle.row.specs.declared.faults.Layer.TheVariants.{Judge}
 use Rattle.row.specs.declared.faults.Refusal.TheVariants as refusals
 use Rattle.row.specs.declared.rows.Row.{Row}
 use Rattle.row.specs.declared.rows.RowNumbers.{RowNumbers}
-use Rattle.judge.specs.Accepted.{Passes, Accepted, FailsNormal, FailsMixed, FailsLong}
+use Rattle.judge.specs.Accepted.{Passes, FailsNormal, FailsMixed, FailsLong}
 use Rattle.judge.specs.declared.bounds.Bounds.{Bounds}
 use Rattle.judge.specs.declared.bounds.JudgeFault.{JudgeFault}
 use Rattle.judge.specs.declared.bounds.JudgeFault.TheVariants.{TooManyRows, NoRows, OutsideLimits, NormalBound, MixedBound, LongBound}
@@ -25,17 +25,9 @@ abbrev pub all_keep : List RowNumbers → Bool
 all_keep [] = true
 all_keep (n ∷ given) = keeps n && all_keep given
 
--- the first rows of an array are made of the numbers given
-abbrev pub RowsMade : List RowNumbers → List Row → Type 0
-RowsMade given rows = (length rows ≡ 32) × (map numbers_of (take (length given) rows) ≡ given)
-
 -- some of the numbers given make no row
 abbrev pub NoRowsMade : List RowNumbers → JudgeFault → Type 0
 NoRowsMade given f = (f ≡ OutsideLimits) × (all_keep given ≡ false)
-
--- every row passes, with the first bounds of an array
-abbrev pub BoundsMade : List Row → List Bounds → Type 0
-BoundsMade rows bounds = (length bounds ≡ 32) × Accepted rows (take (length rows) bounds)
 
 -- row r, at place i below the rows `above`, fails first by the check that the fault names
 abbrev pub FailsBy : List Row → Row → ℕ → JudgeFault → Type 0

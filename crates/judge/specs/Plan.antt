@@ -1,5 +1,5 @@
--- What a plan holds: its rows and their bounds, the part of its arrays that is in use. Assumes nothing.
-use Rattle.std.specs.Prelude.{◌≡◌, ◌≤◌, List, map, length, take}
+-- What a plan holds: its rows and their bounds. Assumes nothing.
+use Rattle.std.specs.Prelude.{◌≡◌, ◌≤◌, List, map, length}
 use Rattle.row.specs.Rows.{numbers_of}
 use Rattle.row.specs.declared.rows.Row.{Row}
 use Rattle.row.specs.declared.rows.RowNumbers.{RowNumbers}
@@ -8,10 +8,10 @@ use Rattle.judge.specs.declared.bounds.Bounds.{Bounds}
 use Rattle.judge.specs.declared.plan.Plan.{Plan}
 
 abbrev pub rows_of : Plan → List Row
-rows_of p = take p.count p.rows
+rows_of p = p.rows.items
 
 abbrev pub bounds_of : Plan → List Bounds
-bounds_of p = take p.count p.bounds
+bounds_of p = p.bounds.items
 
 -- the plan has the rows of the numbers given, 1 to 32 of them, and every row passes with the plan's bounds
 pub record Filled (given : List RowNumbers) (p : Plan) : Type 0 where

@@ -1,12 +1,15 @@
 // Judging a list of rows: the plan is filled, or the first check that applies refuses it.
-ghost use Rattle.std.specs.Prelude.{◌≡◌, ◌≤◌, length, MatchResult};
-ghost use Rattle.judge.specs.Judged.{RowsMade, NoRowsMade, BoundsMade, FailsFirst, Refused};
+ghost use Rattle.std.specs.Prelude.{◌≡◌, ◌≤◌, map, length, MatchResult};
+ghost use Rattle.row.specs.Rows.{numbers_of};
+ghost use Rattle.judge.specs.Accepted.{Accepted};
+ghost use Rattle.judge.specs.Judged.{NoRowsMade, FailsFirst, Refused};
 ghost use Rattle.judge.specs.Plan.{Filled};
 ghost use Rattle.judge.specs.Determined.{Determined};
 
+use super::above::Above;
 use super::bounds::{Bounds, JudgeFault};
-use super::passing::pass;
-use super::plan::{NO_BOUNDS, NO_ROW, Plan};
+use super::plan::Plan;
+use arrayvec::ArrayVec;
 use row::{Row, RowNumbers};
 
 // Fills the plan with the rows of these numbers and their bounds. A refusal leaves the plan as it was.
@@ -16,12 +19,8 @@ pub fn judge(plan: &mut Plan, given: &[RowNumbers]) -> Result<(), JudgeFault>
 {
     check_count(given)?;
     let rows = make_rows(given)?;
-    let bounds = bound_rows(&rows[0..given.len()])?;
-    *plan = Plan {
-        rows,
-        bounds,
-        count: given.len(),
-    };
+    let bounds = bound_rows(rows.as_slice())?;
+    *plan = Plan { rows, bounds };
     Ok(())
 }
 
@@ -29,39 +28,39 @@ pub fn judge(plan: &mut Plan, given: &[RowNumbers]) -> Result<(), JudgeFault>
 fn check_count(given: &[RowNumbers]) -> Result<(), JudgeFault>
     ensures { MatchResult result (λ _. (1 ≤ length given.now) × (length given.now ≤ 32)) (Refused given.now) }
 {
-    let count = given.len();
-    if count > 32 {
-        return Err(JudgeFault::TooManyRows(count as u64));
+    match given.len() {
+        0 => Err(JudgeFault::NoRows),
+        1..=32 => Ok(()),
+        count => Err(JudgeFault::TooManyRows(count as u64)),
     }
-    if count == 0 {
-        return Err(JudgeFault::NoRows);
-    }
-    Ok(())
 }
 
-// The rows of these numbers, from the front of the array on.
-fn make_rows(given: &[RowNumbers]) -> Result<[Row; 32], JudgeFault>
+// The rows of these numbers. By a `for`, since `try_collect` does not say that it fails where a row fails.
+fn make_rows(given: &[RowNumbers]) -> Result<ArrayVec<Row, 32>, JudgeFault>
     requires { length given.now ≤ 32 }
-    ensures { MatchResult result (RowsMade given.now) (NoRowsMade given.now) }
+    ensures { MatchResult result (λ rows. map numbers_of rows.items ≡ given.now) (NoRowsMade given.now) }
 {
-    let mut rows = [NO_ROW; 32];
-    for (place, numbers) in given.iter().enumerate() {
-        let Ok(row) = Row::new(*numbers) else {
+    let mut rows = ArrayVec::new();
+    for numbers in given {
+        let Ok(row) = Row::try_from(*numbers) else {
             return Err(JudgeFault::OutsideLimits);
         };
-        rows[place] = row;
+        rows.push(row);
     }
     Ok(rows)
 }
 
-// The bounds of each row, from the front of the array on, or the first row's failure.
-fn bound_rows(rows: &[Row]) -> Result<[Bounds; 32], JudgeFault>
+// The bounds of each row, or the first row's failure.
+fn bound_rows(rows: &[Row]) -> Result<ArrayVec<Bounds, 32>, JudgeFault>
     requires { length rows.now ≤ 32 }
-    ensures { MatchResult result (BoundsMade rows.now) (FailsFirst rows.now) }
+    ensures { MatchResult result (λ bounds. Accepted rows.now bounds.items) (FailsFirst rows.now) }
 {
-    let mut bounds = [NO_BOUNDS; 32];
+    let mut bounds = ArrayVec::new();
     for (place, row) in rows.iter().enumerate() {
-        bounds[place] = pass(&rows[0..place], row, place as u64)?;
+        let above = Above {
+            rows: &rows[..place],
+        };
+        bounds.push(above.pass(row)?);
     }
     Ok(bounds)
 }

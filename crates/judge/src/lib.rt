@@ -1,11 +1,12 @@
 // The judge: whether each job of a line-up makes its deadline, by response-time analysis.
 #![tactic(auto)]
 
+mod above;
 mod bounds;
 mod demand;
 mod faults;
 mod finish;
-mod instants;
+mod greatest;
 mod judging;
 mod passing;
 mod plan;

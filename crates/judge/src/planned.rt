@@ -4,7 +4,8 @@ ghost use Rattle.std.specs.List.{slice_get};
 ghost use Rattle.judge.specs.Plan.{rows_of, bounds_of};
 
 use super::bounds::Bounds;
-use super::plan::{NO_BOUNDS, NO_ROW, Plan};
+use super::plan::Plan;
+use arrayvec::ArrayVec;
 use row::Row;
 
 impl Plan {
@@ -14,9 +15,8 @@ impl Plan {
         ensures bounds { bounds_of result ≡ [] }
     {
         Plan {
-            rows: [NO_ROW; 32],
-            bounds: [NO_BOUNDS; 32],
-            count: 0,
+            rows: ArrayVec::new(),
+            bounds: ArrayVec::new(),
         }
     }
 
@@ -24,28 +24,20 @@ impl Plan {
     pub fn len(&self) -> usize
         ensures { result ≡ length (rows_of self.now) }
     {
-        self.count
+        self.rows.len()
     }
 
     // The row at a place, or none past the last.
     pub fn row(&self, place: usize) -> Option<Row>
         ensures { result ≡ slice_get (rows_of self.now) place }
     {
-        if place < self.count {
-            Some(self.rows[place])
-        } else {
-            None
-        }
+        self.rows.get(place).copied()
     }
 
     // The bounds of the row at a place, or none past the last.
     pub fn bounds(&self, place: usize) -> Option<Bounds>
         ensures { result ≡ slice_get (bounds_of self.now) place }
     {
-        if place < self.count {
-            Some(self.bounds[place])
-        } else {
-            None
-        }
+        self.bounds.get(place).copied()
     }
 }

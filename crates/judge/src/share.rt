@@ -88,5 +88,5 @@ fn rounded_up(window: u32, period: u32) -> u32
     requires { (window ≤ 524286) × ((0 < period) × (period ≤ 262143)) }
     ensures { result ≡ up window period }
 {
-    (window + (period - 1)) / period
+    window.div_ceil(period)
 }
