@@ -1,4 +1,2 @@
-pub mod Appended
-pub mod Lengths
 pub mod Copied
 pub mod Single

@@ -1,17 +1,15 @@
 // Read, judge, list.
-ghost use Rattle.std.specs.Prelude.{ℕ, ◌≤◌, List, length, MatchResult};
+ghost use Rattle.std.specs.Prelude.{◌≡◌, ℕ, ◌≤◌, List, length, MatchResult};
 ghost use Rattle.lineup_check.specs.Listing.{rows_in, Faulty, Planned, Listing, Written, OneListing};
-ghost use Rattle.lineup_check.specs.Texts.{text_of};
 
-use super::lines::{bound_lines, refused_line};
-use super::text::Text;
+use super::lines::{Text, bound_lines, refused_line};
 use judge::{Plan, judge};
 use reader::read_rows;
 use row::Fault;
 
-// Fills the plan from a line-up's bytes, or says which fault applies.
-fn plan_lineup(plan: &mut Plan, input: &[u8]) -> Result<(), Fault>
-    ensures { MatchResult result (λ _. Planned (rows_in input.now) plan.new) (λ f. Faulty (rows_in input.now) f) }
+// Fills the plan from a line-up's bytes, or says which fault applies and leaves the plan as it was.
+pub fn plan_lineup(plan: &mut Plan, input: &[u8]) -> Result<(), Fault>
+    ensures { MatchResult result (λ _. Planned (rows_in input.now) plan.new) (λ f. (plan.new ≡ plan.old) × Faulty (rows_in input.now) f) }
 {
     let rows = read_rows(input)?;
     judge(plan, rows.as_slice())?;
@@ -19,7 +17,7 @@ fn plan_lineup(plan: &mut Plan, input: &[u8]) -> Result<(), Fault>
 }
 
 fn listing_text(input: &[u8]) -> Text
-    ensures { Listing input.now (text_of result) }
+    ensures { Listing input.now result.bytes }
 {
     let mut plan = Plan::new();
     match plan_lineup(&mut plan, input) {
@@ -36,10 +34,10 @@ pub fn check_lineup(input: &[u8], output: &mut [u8]) -> usize
     ensures single { OneListing }
 {
     let text = listing_text(input);
-    let len = text.len;
+    let len = text.len();
     if output.len() < len {
         return 0;
     }
-    output[0..len].copy_from_slice(&text.bytes[0..len]);
+    output[..len].copy_from_slice(text.as_str().as_bytes());
     len
 }

@@ -3,7 +3,5 @@
 
 mod checking;
 mod lines;
-mod text;
-mod writing;
 
-pub use checking::check_lineup;
+pub use checking::{check_lineup, plan_lineup};
