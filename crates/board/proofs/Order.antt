@@ -1,5 +1,6 @@
 -- The smallest member from a place on, and how it changes where a number joins or leaves. Assumes nothing.
-use Rattle.std.proofs.Common.{◌≡◌, ℕ, zero, suc, ◌-◌, ◌<◌, ◌≤◌, Bool, true, false, ◌⊎◌, List, [], ◌∷◌, length, drop, set, Some, None, Option, sym, refl, ap, ◌∙◌, subst, inl, inr, arith}
+use Rattle.std.proofs.Common.{◌≡◌, ℕ, zero, suc, ◌-◌, ◌<◌, ◌≤◌, Bool, true, false, ◌⊎◌, List, [], ◌∷◌, length, drop, set, Some, None, Option, sym, refl, ap, ◌∙◌, subst, inl, inr, arith, ltb, lt-ltb, le-ltb}
+use Rattle.std.specs.Bool.{then_some}
 use borrow.Author.Tests.{both_ways}
 use Rattle.std.proofs.lemmas.List.{length-drop, length-set, get_or-drop, get_or-set_same, get_or-set_other}
 use Rattle.std.proofs.lemmas.Bool.{cases_lt, cases_order}
@@ -121,7 +122,7 @@ leave_between xs k r q p h s =
         ]
 
 -- what follows 0 is the smallest member
-pub follows-smallest : (xs : List Bool) (j : ℕ) → Follows xs 0 j → j < length xs → smallest xs ≡ Some j
+follows-smallest : (xs : List Bool) (j : ℕ) → Follows xs 0 j → j < length xs → smallest xs ≡ Some j
 follows-smallest xs j p h = go (smallest xs) (smallest_least xs (smallest xs) refl)
   where
     go : (found : Option ℕ) → IsSmallest xs found → found ≡ Some j
@@ -134,9 +135,17 @@ follows-smallest xs j p h = go (smallest xs) (smallest_least xs (smallest xs) re
         ]
 
 -- and where that is the end, there is none
-pub follows_none : (xs : List Bool) (j : ℕ) → Follows xs 0 j → length xs ≤ j → smallest xs ≡ None
+follows_none : (xs : List Bool) (j : ℕ) → Follows xs 0 j → length xs ≤ j → smallest xs ≡ None
 follows_none xs j p h = go (smallest xs) (smallest_least xs (smallest xs) refl)
   where
     go : (found : Option ℕ) → IsSmallest xs found → found ≡ None
     go None s = refl
     go (Some k) s = let low = member-within xs k s.0 in absurd (both_ways (member xs k) (p.gap k (omega arith) (omega arith)) s.0)
+
+-- so the test whether it is in the range finds the smallest member
+pub first_follows : (xs : List Bool) (j : ℕ) → Follows xs 0 j → then_some (ltb j (length xs)) j ≡ smallest xs
+first_follows xs j p =
+    elim (cases_lt j (length xs)) [
+      | inl h ↦ ap (λ b. then_some b j) (lt-ltb j (length xs) h) ∙ sym (follows-smallest xs j p h)
+      | inr h ↦ ap (λ b. then_some b j) (le-ltb j (length xs) h) ∙ sym (follows_none xs j p h)
+    ]

@@ -9,10 +9,11 @@ ghost use Rattle.sets.proofs.Chains.{length_chain};
 use super::{Board, ROWS};
 
 // The link of a row that is not on the board. That of the last row on it is `ROWS`, where the chain ends.
+// Links are numbers and not options, so that the walk to a row's place is one comparison: the end is past every row.
 const OFF: u32 = u32::MAX;
 
 // The chain begins with the smallest row on the board, and behind each row on the board stands the next larger one.
-// So it rises, visits exactly the rows on the board, and ends.
+// So it rises, visits exactly the rows on the board, and ends. The links stand in a table, since the core has no heap.
 #[derive(Drop)]
 pub struct ChainBoard {
     head: u32,
@@ -40,7 +41,7 @@ impl ChainBoard {
         row < ROWS && self.links[row as usize] != OFF
     }
 
-    // The last row below `row`. The chain has such a row: its first.
+    // The last row below `row`. The chain has such a row: its first. A walk along the links, of which no iterator is shorter.
     fn last_below(&self, row: u32) -> u32
         requires head_lt_row { self.now.head < row }
         requires row_bound { row < 32 }
@@ -133,10 +134,6 @@ impl Board for ChainBoard {
     }
 
     fn first(&self) -> Option<u32> {
-        if self.head < ROWS {
-            Some(self.head)
-        } else {
-            None
-        }
+        (self.head < ROWS).then_some(self.head)
     }
 }

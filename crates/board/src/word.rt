@@ -1,61 +1,45 @@
-// A board in one word: row k is on the board where the binary digit k is 1.
-ghost use Rattle.std.specs.Prelude.{◌≡◌};
-ghost use Rattle.sets.specs.Sets.{empty, member};
-ghost use Rattle.sets.specs.Digits.{digits};
-ghost use Rattle.sets.proofs.Digits.{length_digits};
+// A board in one word: the set of its rows.
+ghost use Rattle.std.specs.Prelude.{◌≡◌, length};
+ghost use Rattle.sets.specs.Sets.{empty};
 
 use super::{Board, ROWS};
+use sets::BitSet;
 
-// A board in one word: bit r says whether row r is a member.
 #[derive(Drop)]
 pub struct WordBoard {
-    word: u32,
+    rows: BitSet,
+    ghost many: { length rows ≡ 32 },
 }
 
 impl WordBoard {
     // An empty board.
     pub fn new() -> WordBoard
-        ensures { digits 32 result.word ≡ empty 32 }
+        ensures { result.rows ≡ empty 32 }
     {
-        WordBoard { word: 0 }
-    }
-
-    // Whether `row` is on the board.
-    fn holds(&self, row: u32) -> bool
-        ensures { result ≡ member (digits 32 self.now.word) row }
-    {
-        row < ROWS && self.word >> row & 1 == 1
+        WordBoard {
+            rows: BitSet::empty(ROWS),
+        }
     }
 }
 
-// A word is a board: the set of its ones.
 impl Board for WordBoard {
-    ghost rows = { λ board. digits 32 board.word };
+    ghost rows = { λ board. board.rows };
 
-    ghost range = { λ board. length_digits 32 board.word };
+    ghost range = { λ board. board.many };
 
     fn clear(&mut self) {
-        self.word = 0;
+        *self = WordBoard::new();
     }
 
     fn add(&mut self, row: u32) -> bool {
-        if row >= ROWS || self.holds(row) {
-            return false;
-        }
-        self.word |= 1 << row;
-        true
+        self.rows.insert(row)
     }
 
     fn remove(&mut self, row: u32) -> bool {
-        if !self.holds(row) {
-            return false;
-        }
-        self.word ^= 1 << row;
-        true
+        self.rows.remove(row)
     }
 
     fn first(&self) -> Option<u32> {
-        let row = self.word.trailing_zeros();
-        if row < ROWS { Some(row) } else { None }
+        self.rows.first()
     }
 }

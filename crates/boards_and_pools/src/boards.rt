@@ -1,4 +1,4 @@
-// Calls of a board, and what is answered to them.
+// Calls of a board.
 use std::fmt;
 
 #[derive(Clone, Copy)]
@@ -30,14 +30,6 @@ pub const CALLS: [BoardCall; 17] = [
     BoardCall::First,
 ];
 
-#[derive(Clone, Copy)]
-pub enum BoardAnswer {
-    Done,
-    Said(bool),
-    Row(u32),
-    NoRow,
-}
-
 impl fmt::Display for BoardCall {
     fn fmt<W: fmt::Write>(&self, f: &mut fmt::Formatter<W>) -> fmt::Result {
         match *self {
@@ -46,18 +38,6 @@ impl fmt::Display for BoardCall {
             BoardCall::First => write!(f, "first"),
             BoardCall::PopFirst => write!(f, "pop first"),
             BoardCall::Clear => write!(f, "clear"),
-        }
-    }
-}
-
-impl fmt::Display for BoardAnswer {
-    fn fmt<W: fmt::Write>(&self, f: &mut fmt::Formatter<W>) -> fmt::Result {
-        match *self {
-            BoardAnswer::Done => write!(f, "done"),
-            BoardAnswer::Said(true) => write!(f, "yes"),
-            BoardAnswer::Said(false) => write!(f, "no"),
-            BoardAnswer::Row(row) => write!(f, "{row}"),
-            BoardAnswer::NoRow => write!(f, "none"),
         }
     }
 }

@@ -1,13 +1,25 @@
 // Code for any board and for any pool: what it says is proved from the traits alone.
 ghost use Rattle.std.specs.Prelude.{◌≡◌, nat_lt};
 ghost use Rattle.sets.specs.Sets.{size, smallest, without};
-ghost use Rattle.boards_and_pools.specs.Boards.{row_or_none, board_says, board_after};
-ghost use Rattle.boards_and_pools.specs.Pools.{PoolSays, pool_after};
+ghost use Rattle.boards_and_pools.specs.Boards.{BoardAnswers};
+ghost use Rattle.boards_and_pools.specs.Pools.{PoolAnswers};
+ghost use Rattle.boards_and_pools.specs.declared.answers.Answer.{Answer};
 
-use super::boards::{BoardAnswer, BoardCall};
-use super::pools::{PoolAnswer, PoolCall};
+use super::answers::Answer;
+use super::boards::BoardCall;
+use super::pools::PoolCall;
 use board::Board;
 use pool::Pool;
+
+// A call that can be put to a T.
+pub trait Call<T> {
+    // what may be answered to the call, and what the T is then
+    ghost answers: { T → Self → Answer → T → Type 0 };
+
+    // Puts the call.
+    fn put(&self, to: &mut T) -> Answer
+        ensures { answers to.old self.now result to.new };
+}
 
 // Takes off the smallest row.
 pub fn pop_first<B: Board>(board: &mut B) -> Option<u32>
@@ -19,29 +31,20 @@ pub fn pop_first<B: Board>(board: &mut B) -> Option<u32>
     Some(row)
 }
 
-// Puts a call to the board.
-pub fn answer_board<B: Board>(board: &mut B, call: BoardCall) -> BoardAnswer
-    ensures answer { result ≡ board_says (B.rows board.old) call }
-    ensures after { B.rows board.new ≡ board_after (B.rows board.old) call }
-{
-    match call {
-        BoardCall::Add(row) => BoardAnswer::Said(board.add(row)),
-        BoardCall::Remove(row) => BoardAnswer::Said(board.remove(row)),
-        BoardCall::First => row_or_none(board.first()),
-        BoardCall::PopFirst => row_or_none(pop_first(board)),
-        BoardCall::Clear => {
-            board.clear();
-            BoardAnswer::Done
-        }
-    }
-}
+impl<B: Board> Call<B> for BoardCall {
+    ghost answers = { λ board call said board'. BoardAnswers (B.rows board) call said (B.rows board') };
 
-fn row_or_none(row: Option<u32>) -> BoardAnswer
-    ensures { result ≡ row_or_none row }
-{
-    match row {
-        Some(row) => BoardAnswer::Row(row),
-        None => BoardAnswer::NoRow,
+    fn put(&self, board: &mut B) -> Answer {
+        match *self {
+            BoardCall::Add(row) => Answer::Said(board.add(row)),
+            BoardCall::Remove(row) => Answer::Said(board.remove(row)),
+            BoardCall::First => Answer::Found(board.first()),
+            BoardCall::PopFirst => Answer::Found(pop_first(board)),
+            BoardCall::Clear => {
+                board.clear();
+                Answer::Done
+            }
+        }
     }
 }
 
@@ -50,26 +53,24 @@ pub fn take_and_return<P: Pool>(pool: &mut P) -> bool
     ensures answer { result ≡ nat_lt 0 (size (P.free pool.old)) }
     ensures after { P.free pool.new ≡ P.free pool.old }
 {
+    // Not by `is_some_and`: what it says of a closure that holds the pool is not split by whether there was a block.
     match pool.take() {
         Some(block) => pool.give(block),
         None => false,
     }
 }
 
-// Puts a call to the pool.
-pub fn answer_pool<P: Pool>(pool: &mut P, call: PoolCall) -> PoolAnswer
-    ensures answer { PoolSays (P.free pool.old) call result }
-    ensures after { P.free pool.new ≡ pool_after (P.free pool.old) call result }
-{
-    match call {
-        PoolCall::Take => match pool.take() {
-            Some(block) => PoolAnswer::Number(block),
-            None => PoolAnswer::NoBlock,
-        },
-        PoolCall::TakeAndReturn => PoolAnswer::Said(take_and_return(pool)),
-        PoolCall::Give(block) => PoolAnswer::Said(pool.give(block)),
-        PoolCall::Blocks => PoolAnswer::Number(pool.blocks()),
-        PoolCall::FreeCount => PoolAnswer::Number(pool.free_count()),
-        PoolCall::IsFree(block) => PoolAnswer::Said(pool.is_free(block)),
+impl<P: Pool> Call<P> for PoolCall {
+    ghost answers = { λ pool call said pool'. PoolAnswers (P.free pool) call said (P.free pool') };
+
+    fn put(&self, pool: &mut P) -> Answer {
+        match *self {
+            PoolCall::Take => Answer::Found(pool.take()),
+            PoolCall::TakeAndReturn => Answer::Said(take_and_return(pool)),
+            PoolCall::Give(block) => Answer::Said(pool.give(block)),
+            PoolCall::Blocks => Answer::Count(pool.blocks()),
+            PoolCall::FreeCount => Answer::Count(pool.free_count()),
+            PoolCall::IsFree(block) => Answer::Said(pool.is_free(block)),
+        }
     }
 }

@@ -2,45 +2,42 @@
 #![tactic(auto)]
 
 use board::{ChainBoard, WordBoard};
-use boards::BoardCall;
-use generic::{answer_board, answer_pool};
+use generic::Call;
 use pool::{BitmapPool, FreeListPool};
-use pools::PoolCall;
+use std::fmt::Display;
 use std::io;
 
+mod answers;
 mod boards;
 mod generic;
 mod pools;
 
-fn compare_boards(rt: &HostRuntime, calls: &[BoardCall]) -> io::Result<()> {
-    let mut word = WordBoard::new();
-    let mut chain = ChainBoard::new();
+fn compare<A: Drop, B: Drop, C: Call<A> + Call<B> + Display>(
+    rt: &HostRuntime,
+    mut one: A,
+    mut other: B,
+    calls: &[C],
+) -> io::Result<()> {
     for call in calls {
-        let by_word = answer_board(&mut word, *call);
-        let by_chain = answer_board(&mut chain, *call);
-        println!(rt; "{call}: {by_word} {by_chain}")?;
-    }
-    Ok(())
-}
-
-fn compare_pools(rt: &HostRuntime, blocks: u32, calls: &[PoolCall]) -> io::Result<()> {
-    let mut bitmap = BitmapPool::new(blocks);
-    let mut list = FreeListPool::new(blocks);
-    for call in calls {
-        let by_bitmap = answer_pool(&mut bitmap, *call);
-        let by_list = answer_pool(&mut list, *call);
-        println!(rt; "{call}: {by_bitmap} {by_list}")?;
+        let by_one = call.put(&mut one);
+        let by_other = call.put(&mut other);
+        println!(rt; "{call}: {by_one} {by_other}")?;
     }
     Ok(())
 }
 
 fn main(rt: HostRuntime) -> io::Result<()> {
     println!(rt; "boards: word chain")?;
-    compare_boards(&rt, &boards::CALLS)?;
+    compare(&rt, WordBoard::new(), ChainBoard::new(), &boards::CALLS)?;
     println!(rt; "pools of 3: bitmap list")?;
-    compare_pools(&rt, 3, &pools::CALLS)?;
+    compare(&rt, BitmapPool::new(3), FreeListPool::new(3), &pools::CALLS)?;
     println!(rt; "pools of 0: bitmap list")?;
-    compare_pools(&rt, 0, &pools::SIZES)?;
+    compare(&rt, BitmapPool::new(0), FreeListPool::new(0), &pools::SIZES)?;
     println!(rt; "pools of 65: bitmap list")?;
-    compare_pools(&rt, 65, &pools::SIZES)
+    compare(
+        &rt,
+        BitmapPool::new(65),
+        FreeListPool::new(65),
+        &pools::SIZES,
+    )
 }

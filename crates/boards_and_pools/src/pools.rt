@@ -1,4 +1,4 @@
-// Calls of a pool, and what is answered to them.
+// Calls of a pool.
 use std::fmt;
 
 #[derive(Clone, Copy)]
@@ -31,13 +31,6 @@ pub const CALLS: [PoolCall; 15] = [
 
 pub const SIZES: [PoolCall; 2] = [PoolCall::Blocks, PoolCall::FreeCount];
 
-#[derive(Clone, Copy)]
-pub enum PoolAnswer {
-    Said(bool),
-    Number(u32),
-    NoBlock,
-}
-
 impl fmt::Display for PoolCall {
     fn fmt<W: fmt::Write>(&self, f: &mut fmt::Formatter<W>) -> fmt::Result {
         match *self {
@@ -47,17 +40,6 @@ impl fmt::Display for PoolCall {
             PoolCall::Blocks => write!(f, "blocks"),
             PoolCall::FreeCount => write!(f, "free count"),
             PoolCall::IsFree(block) => write!(f, "is free {block}"),
-        }
-    }
-}
-
-impl fmt::Display for PoolAnswer {
-    fn fmt<W: fmt::Write>(&self, f: &mut fmt::Formatter<W>) -> fmt::Result {
-        match *self {
-            PoolAnswer::Said(true) => write!(f, "yes"),
-            PoolAnswer::Said(false) => write!(f, "no"),
-            PoolAnswer::Number(number) => write!(f, "{number}"),
-            PoolAnswer::NoBlock => write!(f, "none"),
         }
     }
 }

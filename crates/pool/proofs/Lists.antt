@@ -1,10 +1,10 @@
 -- A free-list pool, and what becomes of it where a block is given or taken. Assumes nothing.
 use Rattle.std.proofs.Common.{◌≡◌, ℕ, zero, suc, ◌+◌, ◌-◌, ◌<◌, ◌≤◌, Bool, true, false, not, eqb, ltb, List, [], ◌∷◌, ◌++◌, length, get_or, take, set, replicate, sym, refl, ap, ◌∙◌, subst, ap₂, add-one, arith}
-use Rattle.std.proofs.lemmas.List.{length-set, length-take-le, length-replicate, get_or-take, get_or-append_right, set-append_right, append-nil, append_assoc, take-replicate, replicate_more}
+use Rattle.std.proofs.lemmas.List.{length-set, length-take-le, get_or-take, get_or-append_right, set-append_right, append-nil, append_assoc, take-replicate, replicate_more}
 use Rattle.std.proofs.lemmas.Bool.{and_parts}
 use Rattle.sets.specs.Sets.{empty, full, member, size, IsEmpty}
 use Rattle.sets.specs.Chains.{off, on_chain}
-use Rattle.sets.proofs.Members.{member-empty, size-within, size_join, size_leave, none_empty}
+use Rattle.sets.proofs.Members.{length-full, member-empty, size-within, size_join, size_leave, none_empty}
 use Rattle.sets.proofs.Chains.{length_chain, length_chain_first, member_chain, test_past, chain_empty, chain_on, chain_off}
 use Rattle.pool.specs.Visits.{end, free_in, visits}
 use Rattle.pool.specs.declared.free_list.FreeListPool.{FreeListPool}
@@ -31,10 +31,6 @@ first_none n = let all : n - 0 ≡ n = omega arith in ap empty all
 pub first_all : (n : ℕ) → first_of n n ≡ full n
 unfolding first_of empty
 first_all n = let none : n - n ≡ 0 = omega arith in ap (λ m. full n ++ empty m) none ∙ append-nil (full n)
-
-length-full : (n : ℕ) → length (full n) ≡ n
-unfolding full
-length-full n = length-replicate n true
 
 pub first_absent : (n i : ℕ) → member (first_of n i) i ≡ false
 unfolding first_of

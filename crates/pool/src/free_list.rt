@@ -13,12 +13,15 @@ use super::number::blocks_for;
 const OFF: u32 = u32::MAX;
 
 // The link of the last free block: no block has this number.
+// Links are numbers and not options: two options in each other would take twice the memory, and say no more.
 const END: u32 = 64;
 
 // The list visits `count` free blocks, each once, and then ends; and `count` is how many there are. So it visits them all.
+// The links stand in a table, since the core has no heap, and of one size, since the definitions of chains speak of one.
 #[derive(Drop)]
 pub struct FreeListPool {
     blocks: u32,
+    // kept beside the links, so that the number of free blocks takes no walk
     count: u32,
     head: u32,
     links: [u32; 64],

@@ -1,9 +1,11 @@
 -- A word as a set: how shifts, `|`, `^` and the counts of binary digits tell of its members and change them. Assumes nothing.
-use Rattle.std.proofs.Common.{◌≡◌, ℕ, zero, suc, ◌+◌, ◌-◌, ◌*◌, ◌/◌, ◌%◌, ◌^◌, ◌<◌, ◌≤◌, min, Bool, true, false, not, eqb, ltb, ◌∷◌, length, set, Some, None, sym, refl, ap, ◌∙◌, ap₂, pow-suc, div-one, one-add, arith, pow_pos, le-ltb}
+use Rattle.std.proofs.Common.{◌≡◌, ℕ, zero, suc, ◌+◌, ◌-◌, ◌*◌, ◌/◌, ◌%◌, ◌^◌, ◌<◌, ◌≤◌, min, Bool, true, false, not, eqb, ltb, ◌∷◌, length, set, Some, None, sym, refl, ap, ◌∙◌, ap₂, pow-suc, div-one, one-add, arith, pow_pos, inl, inr, le-ltb, lt-ltb}
 use lib.Arith.{lt-one}
 use lib.Pow.{ones_lt, ones_split, high}
 use lib.Bits.{bit_and, bit_or, bit_xor, and_mask, or_lt, or_zero_r, or_mod, or_shr, xor_lt, xor_zero_r, xor_mod, xor_shr}
 use lib.Count.{ones, ones_step, ones-ones, count_trailing_zeros, under}
+use Rattle.std.specs.Bool.{then_some}
+use Rattle.std.proofs.lemmas.Bool.{cases_lt}
 use Rattle.std.proofs.lemmas.List.{get_or_past}
 use Rattle.std.proofs.lemmas.Nat.{shr-shr, one_shl, pow_below}
 use Rattle.sets.specs.Sets.{empty, full, member, smallest, further, size}
@@ -164,3 +166,12 @@ smallest-digits n m word l h =
 -- and there is none where the zeros are n or more
 pub none_digits : (n m word : ℕ) → n ≤ m → n ≤ count_trailing_zeros m word → smallest (digits n word) ≡ None
 none_digits n m word l h = none n word (omega (arith, fewer_trailing n m word l))
+
+-- and so the test for one that is smaller than n finds the smallest of the n lowest
+pub first_digit : (n m word : ℕ) → n ≤ m → then_some (ltb (count_trailing_zeros m word) n) (count_trailing_zeros m word) ≡ smallest (digits n word)
+first_digit n m word l =
+    let zeros = count_trailing_zeros m word in
+    elim (cases_lt zeros n) [
+      | inl h ↦ ap (λ b. then_some b zeros) (lt-ltb zeros n h) ∙ sym (smallest-digits n m word l h)
+      | inr h ↦ ap (λ b. then_some b zeros) (le-ltb zeros n h) ∙ sym (none_digits n m word l h)
+    ]

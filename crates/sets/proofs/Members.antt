@@ -1,8 +1,9 @@
 -- What holds of sets as lists of Booleans. Assumes nothing.
-use Rattle.std.proofs.Common.{◌≡◌, ℕ, zero, suc, ◌+◌, ◌<◌, ◌≤◌, Bool, true, false, cond, ◌&&◌, ltb, List, [], ◌∷◌, length, set, Some, None, Option, sym, refl, ap, ◌∙◌, subst, arith, le-ltb, lt-ltb}
+use Rattle.std.proofs.Common.{◌≡◌, ℕ, zero, suc, ◌+◌, ◌<◌, ◌≤◌, Bool, true, false, cond, ltb, List, [], ◌∷◌, length, set, Some, None, Option, sym, refl, ap, ◌∙◌, subst, arith, le-ltb, lt-ltb}
 use borrow.Author.Tests.{both_ways, clash}
+use Rattle.std.proofs.Math.Bool.{and-false}
 use Rattle.std.proofs.lemmas.List.{length-replicate, length-set, get_or-set_same, set-set, set-get_or}
-use Rattle.sets.specs.Sets.{empty, member, joins, joined, left, smallest, further, size, IsSmallest, IsMember, IsEmpty}
+use Rattle.sets.specs.Sets.{empty, full, member, joins, joined, left, smallest, further, size, IsSmallest, IsMember, IsEmpty}
 
 smallest_is : (xs : List Bool) → IsSmallest xs (smallest xs)
 smallest_is [] = λ k. refl
@@ -59,13 +60,9 @@ join_past xs k h =
     let cannot : joins xs k ≡ false = rw (le-ltb k (length xs) h) in
     record { answer = sym cannot; after = ap (λ b. cond b (set xs k true) xs) (sym cannot) }
 
-and_false : (b : Bool) → (b && false) ≡ false
-and_false true = refl
-and_false false = refl
-
 pub join_present : (xs : List Bool) (k : ℕ) → member xs k ≡ true → Joining false xs xs k
 join_present xs k present =
-    let cannot : joins xs k ≡ false = rw present (and_false (ltb k (length xs))) in
+    let cannot : joins xs k ≡ false = rw present (and-false (ltb k (length xs))) in
     record { answer = sym cannot; after = ap (λ b. cond b (set xs k true) xs) (sym cannot) }
 
 -- what is answered and what the set xs has become where k was asked to leave
@@ -83,6 +80,10 @@ leave_absent xs k absent =
 pub length-empty : (n : ℕ) → length (empty n) ≡ n
 unfolding empty
 length-empty n = length-replicate n false
+
+pub length-full : (n : ℕ) → length (full n) ≡ n
+unfolding full
+length-full n = length-replicate n true
 
 pub size-empty : (n : ℕ) → size (empty n) ≡ 0
 unfolding empty

@@ -2,9 +2,6 @@ use Rattle.std.proofs.Common.{sym, arith}
 use Rattle.board.proofs.Changes.{row_within, head_least}
 use Rattle.board.proofs.chain.ChainBoardBoard.remove.Goals as goal
 
-pub unlink_first-requires : goal.unlink_first-requires
-unlink_first-requires c = omega (arith, row_within c.args.self.now c.args.row (sym c.if-not-holds.ensures))
-
 pub last_below-place-requires : goal.last_below-place-requires
 last_below-place-requires c =
     let board = c.args.self.now in

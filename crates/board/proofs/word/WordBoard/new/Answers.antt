@@ -1,5 +1,6 @@
-use Rattle.sets.proofs.Digits.{digits-empty}
+use Rattle.std.proofs.Common.{length, ap, ◌∙◌}
+use Rattle.sets.proofs.Members.{length-empty}
 use Rattle.board.proofs.word.WordBoard.new.Goals as goal
 
-pub returns : goal.returns
-returns c = digits-empty 32
+pub invariant_of-result : goal.invariant_of-result
+invariant_of-result c = record { many = ap length c.empty.ensures ∙ length-empty 32 }
