@@ -1,6 +1,6 @@
 -- Steps computed on outlines. A lawful history of the same steps has these outlines and answers, as long as no call is refused
 -- and no turn is idle. Assumes nothing.
-use Rattle.std.proofs.Common.{◌≡◌, ℕ, zero, suc, ◌<◌, ◌≤◌, Bool, true, false, cond, eqb, List, [], ◌∷◌, ◌++◌, length, get_or, take, is_some, Some, None, Option, sym, refl, ap, ◌∙◌, subst, inl, inr, arith}
+use Rattle.std.proofs.Common.{◌≡◌, ℕ, zero, suc, ◌<◌, ◌≤◌, Bool, true, false, cond, eqb, List, [], ◌∷◌, ◌++◌, length, get_or, take, is_some, Some, None, Option, sym, refl, ap, ◌∙◌, subst, inl, inr, arith, Ok}
 use Rattle.std.proofs.lemmas.Bool.{cases_lt, both_ways, eq-eqb}
 use Rattle.row.specs.declared.faults.Fault.{Fault}
 use Rattle.row.specs.declared.faults.Refusal.TheVariants.{NoFreeBlock}
@@ -8,8 +8,8 @@ use Rattle.row.specs.declared.rows.Kind.{Kind}
 use Rattle.row.specs.declared.rows.Row.{Row}
 use Rattle.judge.specs.Bounds.{Least}
 use Rattle.judge.proofs.Uniques.{least_single}
-use Rattle.law.specs.declared.calls.Answer.{Answer}
-use Rattle.law.specs.declared.calls.Answer.TheVariants.{Turn, Done}
+use Rattle.law.specs.Answer.{Answer}
+use Rattle.law.specs.declared.calls.Reply.TheVariants.{Turn, Done}
 use Rattle.law.specs.declared.calls.Call.{Call}
 use Rattle.law.specs.declared.calls.Call.TheVariants.{Arrive, Begin, Report}
 use Rattle.law.specs.declared.calls.Job.{Job}
@@ -140,7 +140,7 @@ module _ (rows : List Row) (number : ℕ) where
           let none = subst (λ cs. first_fault cs ≡ None) (same_start now) p.0 in
           let x = accepts now Begin a (λ f e. some_is_none _ f e none) rules in
           let work = due_first (job_at rows h) (first_row rows (outline now)) p.1 x.0.work x.2.for_work in
-          let turn : Turn (turn_without x.0) ≡ answer_to (outline now) (Given Begin) = λ i. Turn (record { number = x.2.of_session i; clock = x.2.at_clock i; work = work i }) in
+          let turn : Ok (Turn (turn_without x.0)) ≡ answer_to (outline now) (Given Begin) = λ i. Ok (Turn (record { number = x.2.of_session i; clock = x.2.at_clock i; work = work i })) in
           (ap without_block x.1 ∙ turn, ap (λ z. change_without (change Begin z)) x.1 ∙ ap (change Begin) turn)
 
       reports_open : (f : Bool) (a : Answer) → Rules rows number now (made (open_turn_at h) (ReportOpen f)) a → working (open_without (open_turn_at h)) ≡ true → Follows (ReportOpen f) a
@@ -153,13 +153,13 @@ module _ (rows : List Row) (number : ℕ) where
               let isOpenTurn : is_open (open_turn_at h) t ≡ true = ap (λ z. is_open z t) e ∙ same_turn_lem t in
               let hasWork : is_some t.work ≡ true = sym (is_work t.work) ∙ runs in
               let x = accepts now (Report t f) a (λ z some. some_is_none _ z some (rw (isOpenTurn, hasWork))) rules in
-              (ap without_block x ∙ ap Done (outcome-without rows now f t.work), ap (λ z. change_without (change (Report t f) z)) x)
-          by None e rules runs = absurd (both_ways false refl runs)
+              (ap without_block x ∙ ap (λ o. Ok (Done o)) (outcome-without rows now f t.work), ap (λ z. change_without (change (Report t f) z)) x)
+          by None e rules runs = absurd cc
 
       follows : (x : Step) (a : Answer) → Rules rows number now (made (open_turn_at h) x) a → runs (outline now) x ≡ true → Follows x a
       follows (Given (Arrive r k)) a rules runs = arrives r k a rules runs
       follows (Given Begin) a rules runs = begins a rules runs
-      follows (Given (Report t f)) a rules runs = absurd (both_ways false refl runs)
+      follows (Given (Report t f)) a rules runs = absurd cc
       follows (ReportOpen f) a rules runs = reports_open f a rules runs
 
   -- the outline computed after n steps, and what is computed of the next
@@ -194,11 +194,11 @@ module _ (rows : List Row) (number : ℕ) where
         | inr last ↦ let same : suc m ≡ n = omega arith in subst LawfulTo same l
       ]
 
-      one_more : (n : ℕ) → Outlined n → runs_at n ≡ true → LawfulTo (suc n) → Outlined (suc n) × (without_block (get_or log n (Done Idle)) ≡ answer_at n)
+      one_more : (n : ℕ) → Outlined n → runs_at n ≡ true → LawfulTo (suc n) → Outlined (suc n) × (without_block (get_or log n (Ok (Done Idle))) ≡ answer_at n)
       one_more n same e l =
           let h = logged_steps steps log n in
           let s = state_at rows free₀ h in
-          let a = get_or log n (Done Idle) in
+          let a = get_or log n (Ok (Done Idle)) in
           let p = follows free₀ many h l.0 (step_at n) a l.1 (subst (λ s. runs s (step_at n) ≡ true) (sym same) e) in (
             outline_after rows s (change (made (open_turn_at h) (step_at n)) a) ∙ ap (next rows (outline s)) p.1 ∙ ap (λ s. next rows s (change_to s (step_at n))) same,
             p.0 ∙ ap (λ s. answer_to s (step_at n)) same,
@@ -212,5 +212,5 @@ module _ (rows : List Row) (number : ℕ) where
         pub is_outline : (n : ℕ) → n ≤ m → Outlined n
         is_outline n le = outlined n (λ i below. e i (omega arith)) (earlier m n le l)
 
-        pub is_answer : (n : ℕ) → n < m → without_block (get_or log n (Done Idle)) ≡ answer_at n
+        pub is_answer : (n : ℕ) → n < m → without_block (get_or log n (Ok (Done Idle))) ≡ answer_at n
         is_answer n le = (one_more n (is_outline n (omega arith)) (e n le) (earlier m (suc n) le l)).1

@@ -1,9 +1,9 @@
 -- An answer that the rules allow to every call that no check refuses, and so a lawful history. Assumes nothing.
-use Rattle.std.proofs.Common.{◌≡◌, ℕ, zero, suc, ◌<◌, Bool, true, false, not, ◌&&◌, List, length, get_or, is_some, Some, None, Option, sym, refl, ap, subst, arith}
+use Rattle.std.proofs.Common.{◌≡◌, ℕ, zero, suc, ◌<◌, Bool, true, false, not, ◌&&◌, List, length, get_or, is_some, Some, None, Option, sym, refl, ap, subst, arith, Ok}
 use Rattle.std.proofs.lemmas.Bool.{and_parts, not-true}
 use Rattle.row.specs.declared.rows.Row.{Row}
-use Rattle.law.specs.declared.calls.Answer.{Answer}
-use Rattle.law.specs.declared.calls.Answer.TheVariants.{Block, Turn, Done}
+use Rattle.law.specs.Answer.{Answer}
+use Rattle.law.specs.declared.calls.Reply.TheVariants.{Block, Turn, Done}
 use Rattle.law.specs.declared.calls.Call.{Call}
 use Rattle.law.specs.declared.calls.Call.TheVariants.{Arrive, Begin, Report}
 use Rattle.law.specs.declared.calls.Job.{Job}
@@ -46,11 +46,11 @@ module _ (rows : List Row) where
 module _ (rows : List Row) (number : ℕ) where
   -- an arrival gets the first free block
   abbrev pub reply : State → Call → Answer
-  reply s (Arrive r k) = Block (first_free s)
+  reply s (Arrive r k) = Ok (Block (first_free s))
   reply s Begin =
       let r = first_row rows s in
-      Turn (record { number = number; clock = s.clock; work = Some (record { row = r; block = block_of (s.job r) }) })
-  reply s (Report t f) = Done (outcome rows s f t.work)
+      Ok (Turn (record { number = number; clock = s.clock; work = Some (record { row = r; block = block_of (s.job r) }) }))
+  reply s (Report t f) = Ok (Done (outcome rows s f t.work))
 
   accepts : (s : State) (c : Call) → finds rows s c ≡ true → Accepts rows number s c (reply s c)
   accepts s (Arrive r k) e = (first_free s, refl, e)
@@ -91,7 +91,7 @@ module _ (rows : List Row) (number : ℕ) where
     abbrev pub reply_at : ℕ → Answer
     reply_at n = reply (state_after n) (call_at n)
 
-    pub lawful : (n : ℕ) → ((i : ℕ) → i < n → accepted_at i ≡ true) → ((i : ℕ) → i < n → reply_at i ≡ get_or log i (Done Idle)) → Lawful rows number free₀ (logged_steps steps log n)
+    pub lawful : (n : ℕ) → ((i : ℕ) → i < n → accepted_at i ≡ true) → ((i : ℕ) → i < n → reply_at i ≡ get_or log i (Ok (Done Idle))) → Lawful rows number free₀ (logged_steps steps log n)
     lawful zero accepts replies = tt
     lawful (suc n) accepts replies = (
       lawful n (λ i l. accepts i (omega arith)) (λ i l. replies i (omega arith)),

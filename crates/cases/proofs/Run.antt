@@ -1,10 +1,10 @@
 -- Every run of the calls comes to the same. Assumes nothing.
-use Rattle.std.proofs.Common.{◌≡◌, ℕ, zero, suc, ◌<◌, ◌≤◌, Bool, true, false, List, [], ◌∷◌, length, get_or, is_some, Some, None, Option, sym, refl, ap, ◌∙◌, inl, inr, arith, length-set}
+use Rattle.std.proofs.Common.{◌≡◌, ℕ, zero, suc, ◌<◌, ◌≤◌, Bool, true, false, List, [], ◌∷◌, length, get_or, is_some, Some, None, Option, sym, refl, ap, ◌∙◌, inl, inr, arith, length-set, Ok, Err}
 use Rattle.std.proofs.lemmas.List.{ext_get_or}
 use Rattle.std.proofs.lemmas.Bool.{cases_Bool, both_ways}
 use Rattle.row.specs.declared.rows.Row.{Row}
-use Rattle.law.specs.declared.calls.Answer.{Answer}
-use Rattle.law.specs.declared.calls.Answer.TheVariants.{Block, Turn, Done, Refused}
+use Rattle.law.specs.Answer.{Answer}
+use Rattle.law.specs.declared.calls.Reply.TheVariants.{Block, Turn, Done}
 use Rattle.law.specs.declared.calls.Job.{Job}
 use Rattle.law.specs.declared.calls.Outcome.{Outcome}
 use Rattle.law.specs.declared.calls.Outcome.TheVariants.{Idle}
@@ -32,11 +32,11 @@ get_d_table f zero i d l = absurd (omega arith)
 get_d_table f (suc n) zero d l = refl
 get_d_table f (suc n) (suc i) d l = get_d_table (λ i. f (suc i)) n i d (omega arith)
 
-done_of : (a : Answer) (o : Outcome) → without_block a ≡ Done o → a ≡ Done o
-done_of (Block b) o e = cc
-done_of (Turn t) o e = cc
-done_of (Done p) o e = e
-done_of (Refused f) o e = e
+done_of : (a : Answer) (o : Outcome) → without_block a ≡ Ok (Done o) → a ≡ Ok (Done o)
+done_of (Ok (Block b)) o e = cc
+done_of (Ok (Turn t)) o e = cc
+done_of (Ok (Done p)) o e = e
+done_of (Err f) o e = e
 
 -- a job that is this one without its block
 job_of : (o : Option Job) (j : Job) → job_without o ≡ Some j → (b : ℕ) × (o ≡ Some (record { kind = j.kind; arrival = j.arrival; block = b; ticks = j.ticks }))
@@ -80,7 +80,7 @@ all_back_lem rows number free₀ h l none = ext_get_or false (free_at rows free�
 
 pub every_run_lem : EveryRun
 every_run_lem number free₀ log three l = record {
-  answered = λ i below. answered i below ∙ get_d_table (answer_at worked number calls) 34 i (Done Idle) below;
+  answered = λ i below. answered i below ∙ get_d_table (answer_at worked number calls) 34 i (Ok (Done Idle)) below;
   at_ten = ap (λ s. s.clock) (at 23 (omega arith));
   at_fourteen = ap (λ s. s.clock) (at 33 (omega arith));
   abnormal = ap (λ s. s.mode) (at 33 (omega arith));
@@ -98,7 +98,7 @@ every_run_lem number free₀ log three l = record {
     runs : (i : ℕ) → i < 34 → runs_at worked number calls i ≡ true
     runs = all_below_lem (runs_at worked number calls) 34 refl
 
-    answered : (i : ℕ) → i < 34 → without_block (get_or log i (Done Idle)) ≡ answer_at worked number calls i
+    answered : (i : ℕ) → i < 34 → without_block (get_or log i (Ok (Done Idle))) ≡ answer_at worked number calls i
     answered = is_answer worked number calls free₀ many log 34 runs l
 
     at : (n : ℕ) → n ≤ 34 → outline (state_at worked free₀ (logged_steps calls log n)) ≡ outline_at worked number calls n
@@ -111,7 +111,7 @@ every_run_lem number free₀ log three l = record {
     ended = quiet_everywhere worked (logged_steps calls log 34) (orderly worked number free₀ (logged_steps calls log 34) l) quiet
 
 pub some-run : SomeRun
-some-run = lawful worked 7 blocks calls log 34 (all_below_lem (accepted_at worked 7 blocks calls log) 34 refl) (λ i. get_d_table (reply_at worked 7 blocks calls log) 34 i (Done Idle))
+some-run = lawful worked 7 blocks calls log 34 (all_below_lem (accepted_at worked 7 blocks calls log) 34 refl) (λ i. get_d_table (reply_at worked 7 blocks calls log) 34 i (Ok (Done Idle)))
   where
     blocks : List Bool
     blocks = true ∷ true ∷ true ∷ []

@@ -1,5 +1,5 @@
 -- Least and greatest numbers by tests that compute. Assumes nothing.
-use Rattle.std.proofs.Common.{◌≡◌, ℕ, zero, suc, ◌<◌, ◌≤◌, Bool, true, false, cond, not, ◌&&◌, eqb, leb, refl, subst, inl, inr, arith}
+use Rattle.std.proofs.Common.{◌≡◌, ℕ, zero, suc, ◌<◌, ◌≤◌, Bool, true, false, cond, not, ◌&&◌, eqb, leb, subst, inl, inr, arith}
 use Rattle.std.proofs.lemmas.Bool.{cases_lt, and_parts, and_cases, not-true, not-false, both_ways, leb-true, eqb-true, le-leb, and_from}
 use Rattle.judge.specs.Bounds.{Least, Greatest}
 
@@ -19,7 +19,7 @@ all_below_lem f (suc n) e u l =
 
 -- where not every number passes, one fails
 pub some_below : (f : ℕ → Bool) (n : ℕ) → all_below f n ≡ false → (u : ℕ) × (u < n) × (f u ≡ false)
-some_below f zero e = absurd (both_ways true e refl)
+some_below f zero e = absurd cc
 some_below f (suc n) e = elim (and_cases (f n) (all_below f n) e) [
   | inl here ↦ (n, omega arith, here)
   | inr before ↦ let p = some_below f n before in (p.0, omega (arith, p.1), p.2)

@@ -1,6 +1,6 @@
 -- Small facts on options, kinds and turns. Assumes nothing.
-use Rattle.std.proofs.Common.{◌≡◌, ℕ, true, false, not, ◌&&◌, eqb, is_some, Some, None, Option, refl, ap, arith}
-use Rattle.std.proofs.lemmas.Bool.{and_parts, both_ways, eqb-true}
+use Rattle.std.proofs.Common.{◌≡◌, true, false, not, ◌&&◌, eqb, is_some, Some, None, Option, refl, ap}
+use Rattle.std.proofs.lemmas.Bool.{and_parts, eqb-true}
 use Rattle.row.specs.Rows.{is_track}
 use Rattle.row.specs.declared.rows.Kind.{Kind}
 use Rattle.row.specs.declared.rows.Kind.TheVariants.{Normal, Abnormal}
@@ -12,7 +12,7 @@ use Rattle.law.specs.State.{is_abnormal}
 
 -- an option is not both
 pub some_is_none : {A : Type 0} (o : Option A) (x : A) → o ≡ Some x → o ≡ None → ⊥
-some_is_none o x e f = let z : ◌≡◌ {A = ℕ} 0 1 = cc in omega arith
+some_is_none o x e f = cc
 
 pub none_of : {A : Type 0} (o : Option A) → is_some o ≡ false → o ≡ None
 none_of (Some x) e = cc
@@ -20,11 +20,11 @@ none_of None e = refl
 
 pub some_of : {A : Type 0} (o : Option A) → is_some o ≡ true → (x : A) × (o ≡ Some x)
 some_of (Some x) e = (x, refl)
-some_of None e = absurd (both_ways false refl e)
+some_of None e = absurd cc
 
 -- a mode is not both
 pub clash : (m : Kind) → m ≡ Normal → m ≡ Abnormal → ⊥
-clash m e f = let z : ◌≡◌ {A = ℕ} 0 1 = cc in omega arith
+clash m e f = cc
 
 pub normal_of : (k : Kind) → is_abnormal k ≡ false → k ≡ Normal
 normal_of Normal e = refl

@@ -1,13 +1,13 @@
 -- After every lawful history each block is free or held as it must be, and enough blocks are always enough. Assumes nothing.
-use Rattle.std.proofs.Common.{◌≡◌, ℕ, ◌<◌, ◌≤◌, Bool, true, false, cond, ltb, ◌↔◌, List, [], ◌∷◌, length, get_or, Some, None, Option, sym, refl, ap, ◌∙◌, subst, inl, inr, arith}
+use Rattle.std.proofs.Common.{◌≡◌, ℕ, ◌<◌, ◌≤◌, Bool, true, false, cond, ltb, ◌↔◌, List, [], ◌∷◌, length, get_or, Some, None, Option, sym, refl, ap, ◌∙◌, subst, inl, inr, arith, Ok}
 use Rattle.std.proofs.lemmas.Bool.{cases_eq, both_ways, eq-eqb, ne_eqb, eqb-true, ltb-true, not-false}
 use Rattle.row.specs.Faults.{number_of}
 use Rattle.row.specs.declared.faults.Fault.{Fault}
 use Rattle.row.specs.declared.faults.Refusal.TheVariants.{NoFreeBlock}
 use Rattle.row.specs.declared.rows.Kind.{Kind}
 use Rattle.row.specs.declared.rows.Row.{Row}
-use Rattle.law.specs.declared.calls.Answer.{Answer}
-use Rattle.law.specs.declared.calls.Answer.TheVariants.{Done}
+use Rattle.law.specs.Answer.{Answer}
+use Rattle.law.specs.declared.calls.Reply.TheVariants.{Done}
 use Rattle.law.specs.declared.calls.Call.{Call}
 use Rattle.law.specs.declared.calls.Call.TheVariants.{Arrive, Report}
 use Rattle.law.specs.declared.calls.Job.{Job}
@@ -40,7 +40,7 @@ KeptAt rows free₀ h = Kept (length rows) free₀ (free_at rows free₀ h) (λ 
 
 module _ (rows : List Row) (number : ℕ) (free₀ : List Bool) (h : History) (s : Orderly rows h) (w : KeptAt rows free₀ h) where
   kept_report : (n c : ℕ) (x : Option Work) (finished : Bool) (o : Outcome) → WorkDue (job_at rows h) x
-      → KeptAt rows free₀ (record { call = Report (record { number = n; clock = c; work = x }) finished; answer = Done o } ∷ h)
+      → KeptAt rows free₀ (record { call = Report (record { number = n; clock = c; work = x }) finished; answer = Ok (Done o) } ∷ h)
   kept_report n c (Some x) finished o due =
       subst (λ z. Kept (length rows) free₀ (with_block z (free_at rows free₀ h)) hold') (sym (ap (given_back row finished) due.unended))
       (by (ends row finished mine) refl)
@@ -52,7 +52,7 @@ module _ (rows : List Row) (number : ℕ) (free₀ : List Bool) (h : History) (s
       mine = due.mine
 
       h' : History
-      h' = record { call = Report (record { number = n; clock = c; work = Some x }) finished; answer = Done o } ∷ h
+      h' = record { call = Report (record { number = n; clock = c; work = Some x }) finished; answer = Ok (Done o) } ∷ h
 
       hold : ℕ → Option ℕ
       hold r = holding (job_at rows h r)

@@ -1,13 +1,13 @@
 -- What holds of clock, jobs, mode and open turn after every lawful history. Assumes nothing.
-use Rattle.std.proofs.Common.{◌≡◌, ℕ, zero, suc, ◌+◌, ◌<◌, ◌≤◌, Bool, true, false, cond, not, ◌||◌, eqb, leb, List, [], ◌∷◌, length, is_some, Some, None, Option, refl, ap, ◌∙◌, subst, inl, inr, arith}
+use Rattle.std.proofs.Common.{◌≡◌, ℕ, zero, suc, ◌+◌, ◌<◌, ◌≤◌, Bool, true, false, cond, not, ◌||◌, eqb, leb, List, [], ◌∷◌, length, is_some, Some, None, Option, refl, ap, ◌∙◌, subst, inl, inr, arith, Ok}
 use Rattle.std.proofs.lemmas.Bool.{cases_eq, and_parts, and_cases, both_ways, not-true, not-false, eq-eqb, ne_eqb, leb-false, or_parts, cond_both}
 use Rattle.row.specs.Rows.{period_of, is_track}
 use Rattle.row.specs.declared.rows.Kind.{Kind}
 use Rattle.row.specs.declared.rows.Kind.TheVariants.{Normal, Abnormal}
 use Rattle.row.specs.declared.rows.Row.{Row}
 use Rattle.row.proofs.Limits.{limits}
-use Rattle.law.specs.declared.calls.Answer.{Answer}
-use Rattle.law.specs.declared.calls.Answer.TheVariants.{Block, Turn, Done}
+use Rattle.law.specs.Answer.{Answer}
+use Rattle.law.specs.declared.calls.Reply.TheVariants.{Block, Turn, Done}
 use Rattle.law.specs.declared.calls.Call.{Call}
 use Rattle.law.specs.declared.calls.Call.TheVariants.{Arrive, Begin, Report}
 use Rattle.law.specs.declared.calls.Job.{Job}
@@ -32,7 +32,7 @@ module _ (jobs : ℕ → Option Job) where
       ]
 
   pub quiet_not : (n : ℕ) → quiet_below n jobs ≡ false → (q : ℕ) × (j : Job) × (q < n) × (jobs q ≡ Some j)
-  quiet_not zero e = absurd (both_ways true e refl)
+  quiet_not zero e = absurd cc
   quiet_not (suc n) e = elim (and_cases (not (is_some (jobs n))) (quiet_below n jobs) e) [
     | inl s ↦ let p = some_of (jobs n) (not-false (is_some (jobs n)) s) in (n, p.0, omega arith, p.1)
     | inr s ↦ let p = quiet_not n s in (p.0, p.1, omega (arith, p.2), p.3)
@@ -71,7 +71,7 @@ quiet_everywhere rows h s quiet r = by (job_at rows h r) refl
 
 -- an admitted arrival, as the windows have it
 pub admits_step : (rows : List Row) (free₀ : List Bool) (h : History) (q : ℕ) (k : Kind) (b : ℕ) → Admitted rows free₀ h q k b →
-    let h' : History = record { call = Arrive q k; answer = Block b } ∷ h in
+    let h' : History = record { call = Arrive q k; answer = Ok (Block b) } ∷ h in
     Admits rows (clock_at h) (mode_at rows h') (ready_at rows h) (ready_at rows h') (job_at rows h) (job_at rows h') q k b
 admits_step rows free₀ h q k b a = record {
   ended = a.ended;
@@ -86,7 +86,7 @@ admits_step rows free₀ h q k b a = record {
 
 -- an accepted report of a turn with work, as the windows have it
 pub ticks_step : (rows : List Row) (h : History) (n c : ℕ) (w : Work) (finished : Bool) (o : Outcome) (d : Due (job_at rows h) w) → Orderly rows h →
-    let h' : History = record { call = Report (record { number = n; clock = c; work = Some w }) finished; answer = Done o } ∷ h in
+    let h' : History = record { call = Report (record { number = n; clock = c; work = Some w }) finished; answer = Ok (Done o) } ∷ h in
     Ticks rows (job_at rows h) (job_at rows h') w.row d.mine finished
 ticks_step rows h n c w finished o d s = record {
   unended = d.unended;
@@ -123,7 +123,7 @@ budget_pos r Normal = omega (arith, limits r)
 budget_pos r Abnormal = omega (arith, limits r)
 
 module _ (rows : List Row) (number : ℕ) (free₀ : List Bool) (h : History) (s : Orderly rows h) where
-  orderly_admits : (q : ℕ) (k : Kind) (b : ℕ) → Admitted rows free₀ h q k b → Orderly rows (record { call = Arrive q k; answer = Block b } ∷ h)
+  orderly_admits : (q : ℕ) (k : Kind) (b : ℕ) → Admitted rows free₀ h q k b → Orderly rows (record { call = Arrive q k; answer = Ok (Block b) } ∷ h)
   orderly_admits q k b a = record {
     soon = λ r. cond_both (eqb q r) (clock_at h + period_of (row_at rows r)) (ready_at rows h r) (λ x. x ≤ clock_at h + period_of (row_at rows r))
         (λ _. omega arith) (λ _. s.soon r);
@@ -153,7 +153,7 @@ module _ (rows : List Row) (number : ℕ) (free₀ : List Bool) (h : History) (s
           → new_job k (clock_at h) b ≡ j
       new r j p e = let f = rw (eq-eqb q r p) at e in cc
 
-  orderly_opens : (t : TurnNumbers) → Opens number (state_at rows free₀ h) t → Orderly rows (record { call = Begin; answer = Turn t } ∷ h)
+  orderly_opens : (t : TurnNumbers) → Opens number (state_at rows free₀ h) t → Orderly rows (record { call = Begin; answer = Ok (Turn t) } ∷ h)
   orderly_opens t a = record {
     soon = s.soon;
     in_plan = s.in_plan;
@@ -164,7 +164,7 @@ module _ (rows : List Row) (number : ℕ) (free₀ : List Bool) (h : History) (s
     calm = s.calm;
   }
 
-  orderly_reports : (t : TurnNumbers) (finished : Bool) (o : Outcome) → Orderly rows (record { call = Report t finished; answer = Done o } ∷ h)
+  orderly_reports : (t : TurnNumbers) (finished : Bool) (o : Outcome) → Orderly rows (record { call = Report t finished; answer = Ok (Done o) } ∷ h)
   orderly_reports t finished o = record {
     soon = λ r. omega (arith, s.soon r);
     in_plan = in_plan;

@@ -33,7 +33,7 @@ bound_of above (Track t) b p track k = by b.late p.late k
     by (Some l) q Normal = (l.mixed, q.0, omega (arith, q.1, limits (Track t)))
     by (Some l) q Abnormal = (l.long, q.2, omega (arith, q.3, limits (Track t)))
     by None q k = absurd q
-bound_of above (Helper t) b p track k = let z : ◌≡◌ {A = ℕ} 0 1 = cc in absurd (omega arith)
+bound_of above (Helper t) b p track k = absurd cc
 
 module _ (rows : List Row) (bounds : List Bounds) (accepted : Accepted rows bounds) (number : ℕ) (free₀ : List Bool) (h : History)
     (l : Lawful rows number free₀ h) where

@@ -1,16 +1,14 @@
 -- A session that follows the rules has a lawful history. Assumes nothing.
-use Rattle.std.proofs.Common.{◌≡◌, ℕ, zero, suc, ◌+◌, ◌<◌, ◌≤◌, Bool, cond, eqb, List, [], ◌∷◌, length, get_or, set, sym, refl, ap, ◌∙◌, subst, inl, inr, add-one, arith}
+use Rattle.std.proofs.Common.{Option, ◌≡◌, ℕ, zero, suc, ◌+◌, ◌<◌, ◌≤◌, Bool, cond, eqb, List, [], ◌∷◌, length, get_or, set, sym, refl, ap, ◌∙◌, subst, inl, inr, add-one, arith, Ok}
 use Rattle.std.proofs.lemmas.List.{get_or-set_same, get_or-set_other}
 use Rattle.std.proofs.lemmas.Bool.{cases_eq, eq-eqb, ne_eqb}
 use Rattle.row.specs.declared.rows.Row.{Row}
-use Rattle.law.specs.declared.calls.Answer.{Answer}
-use Rattle.law.specs.declared.calls.Answer.TheVariants.{Done}
+use Rattle.law.specs.Answer.{Answer}
+use Rattle.law.specs.declared.calls.Reply.TheVariants.{Done}
 use Rattle.law.specs.declared.calls.Call.{Call}
-use Rattle.law.specs.declared.calls.Call.TheVariants.{Begin}
 use Rattle.law.specs.declared.calls.Outcome.TheVariants.{Idle}
-use Rattle.law.specs.declared.calls.Step.{Step}
-use Rattle.law.specs.declared.calls.Step.TheVariants.{Given}
-use Rattle.law.specs.History.{History, state_at, open_turn_at, made, logged, logged_steps}
+use Rattle.law.specs.declared.calls.TurnNumbers.{TurnNumbers}
+use Rattle.law.specs.History.{History, state_at, open_turn_at, logged_by}
 use Rattle.law.specs.Represents.{Represents}
 use Rattle.law.specs.Rules.{Rules}
 use Rattle.law.specs.State.{State, after, change}
@@ -34,36 +32,23 @@ pub same_state : (s t : State) → s.clock ≡ t.clock → s.mode ≡ t.mode →
 same_state s t clock mode job ready open_turn free =
     λ i. record { clock = clock i; mode = mode i; job = λ r. job r i; ready = λ r. ready r i; open_turn = open_turn i; free = free i }
 
--- the log at place i is not part of what came before
-logged-kept : (calls : List Call) (log : List Answer) (i : ℕ) (a : Answer) (n : ℕ) → n ≤ i → logged calls (set log i a) n ≡ logged calls log n
-logged-kept calls log i a zero l = refl
-logged-kept calls log i a (suc n) l =
-    let same : get_or (set log i a) n (Done Idle) ≡ get_or log n (Done Idle) = get_or-set_other log i n a (Done Idle) (λ e. omega arith) in
-    let rest = logged-kept calls log i a n (omega arith) in
-    λ z. record { call = get_or calls n Begin; answer = same z } ∷ rest z
+-- what a list of lines and a log tell as the log is written: `makes` and `past` as in `logged_by`
+module _ {L : Type 0} (makes : Option TurnNumbers → L → Call) (past : L) (lines : List L) where
+  -- the log at place i is not part of what came before
+  logged-kept : (log : List Answer) (i : ℕ) (a : Answer) (n : ℕ) → n ≤ i → logged_by makes past lines (set log i a) n ≡ logged_by makes past lines log n
+  logged-kept log i a zero l = refl
+  logged-kept log i a (suc n) l =
+      let same : get_or (set log i a) n (Ok (Done Idle)) ≡ get_or log n (Ok (Done Idle)) = get_or-set_other log i n a (Ok (Done Idle)) (λ e. omega arith) in
+      let rest = logged-kept log i a n (omega arith) in
+      λ z. record { call = makes (open_turn_at (rest z)) (get_or lines n past); answer = same z } ∷ rest z
 
--- an answer written to place i of the log is the newest of the history
-pub logged_more : (calls : List Call) (log : List Answer) (i : ℕ) (a : Answer) → i < length log
-    → logged calls (set log i a) (i + 1) ≡ record { call = get_or calls i Begin; answer = a } ∷ logged calls log i
-logged_more calls log i a l =
-    let new : get_or (set log i a) i (Done Idle) ≡ a = get_or-set_same log i a (Done Idle) l in
-    let rest = logged-kept calls log i a i (omega arith) in
-    rw add-one (λ z. record { call = get_or calls i Begin; answer = new z } ∷ rest z)
-
--- the same for a list of steps
-logged_steps_kept : (steps : List Step) (log : List Answer) (i : ℕ) (a : Answer) (n : ℕ) → n ≤ i → logged_steps steps (set log i a) n ≡ logged_steps steps log n
-logged_steps_kept steps log i a zero l = refl
-logged_steps_kept steps log i a (suc n) l =
-    let same : get_or (set log i a) n (Done Idle) ≡ get_or log n (Done Idle) = get_or-set_other log i n a (Done Idle) (λ e. omega arith) in
-    let rest = logged_steps_kept steps log i a n (omega arith) in
-    λ z. record { call = made (open_turn_at (rest z)) (get_or steps n (Given Begin)); answer = same z } ∷ rest z
-
-pub logged_steps_more : (steps : List Step) (log : List Answer) (i : ℕ) (a : Answer) → i < length log
-    → logged_steps steps (set log i a) (i + 1) ≡ record { call = made (open_turn_at (logged_steps steps log i)) (get_or steps i (Given Begin)); answer = a } ∷ logged_steps steps log i
-logged_steps_more steps log i a l =
-    let new : get_or (set log i a) i (Done Idle) ≡ a = get_or-set_same log i a (Done Idle) l in
-    let rest = logged_steps_kept steps log i a i (omega arith) in
-    rw add-one (λ z. record { call = made (open_turn_at (rest z)) (get_or steps i (Given Begin)); answer = new z } ∷ rest z)
+  -- an answer written to place i of the log is the newest of the history
+  pub logged_more : (log : List Answer) (i : ℕ) (a : Answer) → i < length log
+      → logged_by makes past lines (set log i a) (i + 1) ≡ record { call = makes (open_turn_at (logged_by makes past lines log i)) (get_or lines i past); answer = a } ∷ logged_by makes past lines log i
+  logged_more log i a l =
+      let new : get_or (set log i a) i (Ok (Done Idle)) ≡ a = get_or-set_same log i a (Ok (Done Idle)) l in
+      let rest = logged-kept log i a i (omega arith) in
+      rw add-one (λ z. record { call = makes (open_turn_at (rest z)) (get_or lines i past); answer = new z } ∷ rest z)
 
 -- a table changed at place i, as the state has it: what f makes of the entry there, and the others as they were
 pub set_by : {A : Type 0} (f : ℕ → A → A) (xs : List A) (i : ℕ) (d : A) (q : ℕ) → i < length xs

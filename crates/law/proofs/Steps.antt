@@ -1,13 +1,13 @@
 -- What the rules say of a call by its answer. Assumes nothing.
-use Rattle.std.proofs.Common.{◌≡◌, ℕ, ◌<◌, ◌≤◌, Bool, true, false, ltb, List, length, get_or, Some, None, Option, refl}
+use Rattle.std.proofs.Common.{◌≡◌, ℕ, ◌<◌, ◌≤◌, Bool, true, false, ltb, List, length, get_or, Some, None, Option, refl, Ok, Err}
 use Rattle.std.proofs.lemmas.Bool.{not-false, ltb-true, ltb-false}
 use Rattle.row.specs.Rows.{is_track}
 use Rattle.row.specs.declared.faults.Fault.{Fault}
 use Rattle.row.specs.declared.rows.Kind.{Kind}
 use Rattle.row.specs.declared.rows.Kind.TheVariants.{Normal}
 use Rattle.row.specs.declared.rows.Row.{Row}
-use Rattle.law.specs.declared.calls.Answer.{Answer}
-use Rattle.law.specs.declared.calls.Answer.TheVariants.{Block, Turn, Done, Refused}
+use Rattle.law.specs.Answer.{Answer}
+use Rattle.law.specs.declared.calls.Reply.TheVariants.{Block, Turn, Done}
 use Rattle.law.specs.declared.calls.Call.{Call}
 use Rattle.law.specs.declared.calls.Call.TheVariants.{Arrive, Begin, Report}
 use Rattle.law.specs.declared.calls.Outcome.{Outcome}
@@ -30,10 +30,10 @@ pub record Admitted (rows : List Row) (free₀ : List Bool) (h : History) (r : �
 
 -- what the rules say of a call and its answer
 pub data Step (rows : List Row) (number : ℕ) (free₀ : List Bool) (h : History) : Call → Answer → Type 0 where
-  admitted : (r : ℕ) (k : Kind) (b : ℕ) → Admitted rows free₀ h r k b → Step rows number free₀ h (Arrive r k) (Block b)
-  opened : (t : TurnNumbers) → open_turn_at h ≡ None → Opens number (state_at rows free₀ h) t → Step rows number free₀ h Begin (Turn t)
-  reported : (t : TurnNumbers) (finished : Bool) (o : Outcome) → open_turn_at h ≡ Some t → Step rows number free₀ h (Report t finished) (Done o)
-  refused : (c : Call) (f : Fault) → first_fault (checks rows (state_at rows free₀ h) c) ≡ Some f → Step rows number free₀ h c (Refused f)
+  admitted : (r : ℕ) (k : Kind) (b : ℕ) → Admitted rows free₀ h r k b → Step rows number free₀ h (Arrive r k) (Ok (Block b))
+  opened : (t : TurnNumbers) → open_turn_at h ≡ None → Opens number (state_at rows free₀ h) t → Step rows number free₀ h Begin (Ok (Turn t))
+  reported : (t : TurnNumbers) (finished : Bool) (o : Outcome) → open_turn_at h ≡ Some t → Step rows number free₀ h (Report t finished) (Ok (Done o))
+  refused : (c : Call) (f : Fault) → first_fault (checks rows (state_at rows free₀ h) c) ≡ Some f → Step rows number free₀ h c (Err f)
 
 module _ (rows : List Row) (number : ℕ) (free₀ : List Bool) (h : History) where
   abbrev now : State
@@ -64,5 +64,5 @@ module _ (rows : List Row) (number : ℕ) (free₀ : List Bool) (h : History) wh
 
 -- what a refusal says of the checks
 pub refused_by : {rows : List Row} {number : ℕ} {free₀ : List Bool} {h : History} {c : Call} {f : Fault}
-    → Step rows number free₀ h c (Refused f) → first_fault (checks rows (state_at rows free₀ h) c) ≡ Some f
+    → Step rows number free₀ h c (Err f) → first_fault (checks rows (state_at rows free₀ h) c) ≡ Some f
 refused_by (refused c f e) = e

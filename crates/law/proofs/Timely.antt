@@ -1,12 +1,12 @@
 -- Every row has its windows after every lawful history, so that no job is ever late. Assumes nothing.
-use Rattle.std.proofs.Common.{◌≡◌, ℕ, ◌+◌, ◌<◌, ◌≤◌, Bool, List, [], ◌∷◌, length, take, Some, None, Option, sym, refl, ap, ◌∙◌, subst, inl, inr, arith}
+use Rattle.std.proofs.Common.{◌≡◌, ℕ, ◌+◌, ◌<◌, ◌≤◌, Bool, List, [], ◌∷◌, length, take, Some, None, Option, sym, refl, ap, ◌∙◌, subst, inl, inr, arith, Ok}
 use Rattle.std.proofs.lemmas.Bool.{cases_eq, cases_lt, cases_Bool, cond_both}
 use Rattle.row.specs.Rows.{period_of}
 use Rattle.row.specs.declared.rows.Kind.{Kind}
 use Rattle.row.specs.declared.rows.Kind.TheVariants.{Normal, Abnormal}
 use Rattle.row.specs.declared.rows.Row.{Row}
-use Rattle.law.specs.declared.calls.Answer.{Answer}
-use Rattle.law.specs.declared.calls.Answer.TheVariants.{Done}
+use Rattle.law.specs.Answer.{Answer}
+use Rattle.law.specs.declared.calls.Reply.TheVariants.{Done}
 use Rattle.law.specs.declared.calls.Call.{Call}
 use Rattle.law.specs.declared.calls.Call.TheVariants.{Report}
 use Rattle.law.specs.declared.calls.Job.{Job}
@@ -108,10 +108,10 @@ module _ (rows : List Row) (number : ℕ) (free₀ : List Bool) (h : History) (s
   windows_turn Abnormal Abnormal e = rw e at w
 
   windows_report : (n c : ℕ) (x : Option Work) (finished : Bool) (o : Outcome) → WorkDue (job_at rows h) x →
-      let h' : History = record { call = Report (record { number = n; clock = c; work = x }) finished; answer = Done o } ∷ h in
+      let h' : History = record { call = Report (record { number = n; clock = c; work = x }) finished; answer = Ok (Done o) } ∷ h in
       Orderly rows h' → WindowsAt rows h'
   windows_report n c (Some x) finished o due s' =
-      let h' : History = record { call = Report (record { number = n; clock = c; work = Some x }) finished; answer = Done o } ∷ h in
+      let h' : History = record { call = Report (record { number = n; clock = c; work = Some x }) finished; answer = Ok (Done o) } ∷ h in
       cond_both (quiet_below (length rows) (job_at rows h')) Normal (mode_at rows h) (λ m. Windows rows (clock_at h + 1) m (ready_at rows h) (job_at rows h'))
       (λ quiet. windows_begin (quiet_everywhere rows h' s' quiet))
       (λ _. windows_tick (ticks_step rows h n c x finished o due s) due.smallest s.soon s'.unfinished w)

@@ -1,9 +1,8 @@
 -- The open turn can be reported. Assumes nothing.
-use Rattle.std.proofs.Common.{◌≡◌, ℕ, true, false, not, List, is_some, Some, None, Option, refl, ap, ◌∙◌, subst, arith}
+use Rattle.std.proofs.Common.{◌≡◌, ℕ, true, false, not, List, is_some, Some, None, Option, refl, ap, ◌∙◌, subst, Err}
 use Rattle.std.proofs.lemmas.Bool.{eq-eqb, and_from, and_right}
 use Rattle.row.specs.declared.faults.Fault.{Fault}
 use Rattle.row.specs.declared.rows.Row.{Row}
-use Rattle.law.specs.declared.calls.Answer.TheVariants.{Refused}
 use Rattle.law.specs.declared.calls.Call.TheVariants.{Report}
 use Rattle.law.specs.declared.calls.TurnNumbers.{TurnNumbers}
 use Rattle.law.specs.declared.calls.Work.{Work}
@@ -24,8 +23,7 @@ no_fault : (s : State) (t : TurnNumbers) → s.open_turn ≡ Some t → first_fa
 no_fault s t e = rw (ap (λ o. is_open o t) e ∙ same_turn_lem t, and_right (not (is_some t.work)) false refl)
 
 pub never_refused : (rows : List Row) (number : ℕ) (s : State) (t : TurnNumbers) (f : Fault) → s.open_turn ≡ Some t
-    → Rules rows number s (Report t false) (Refused f) → ⊥
+    → Rules rows number s (Report t false) (Err f) → ⊥
 never_refused rows number s t f e r =
-    let answered = subst (Answers rows number s (Report t false) (Refused f)) (no_fault s t e) r in
-    let z : ◌≡◌ {A = ℕ} 0 1 = cc in
-    omega arith
+    let answered = subst (Answers rows number s (Report t false) (Err f)) (no_fault s t e) r in
+    cc

@@ -1,6 +1,6 @@
 -- A lawful history on an accepted plan, which shows that the law speaks of something. Assumes nothing.
-use Rattle.std.specs.Prelude.{◌≡◌, ℕ, Bool, true, false, List, [], ◌∷◌, Some, None}
-use Rattle.std.proofs.Common.{lit≤}
+use Rattle.std.specs.Prelude.{◌≡◌, ℕ, Bool, true, false, List, [], ◌∷◌, Some, None, Ok, Err}
+use Rattle.std.proofs.Common.{lit≤, Ok, Err}
 use Rattle.row.specs.declared.faults.Layer.TheVariants.{Session}
 use Rattle.row.specs.declared.faults.Refusal.TheVariants.{HelperInAbnormalMode}
 use Rattle.row.specs.declared.rows.Kind.TheVariants.{Normal, Abnormal}
@@ -8,7 +8,7 @@ use Rattle.row.specs.declared.rows.Row.{Row}
 use Rattle.row.specs.declared.rows.Row.TheVariants.{Track, Helper}
 use Rattle.judge.specs.Accepted.{Accepted}
 use Rattle.judge.specs.declared.bounds.Bounds.{Bounds}
-use Rattle.law.specs.declared.calls.Answer.TheVariants.{Block, Turn, Done, Refused}
+use Rattle.law.specs.declared.calls.Reply.TheVariants.{Block, Turn, Done}
 use Rattle.law.specs.declared.calls.Call.TheVariants.{Arrive, Begin, Report}
 use Rattle.law.specs.declared.calls.Outcome.TheVariants.{GoesOn, Cut}
 use Rattle.law.specs.declared.calls.TurnNumbers.{TurnNumbers}
@@ -37,12 +37,12 @@ turn_at c = record { number = 7; clock = c; work = Some (record { row = 0; block
 -- first tick, is cut by its second, the one that makes the clock its arrival plus its long bound, and the mode is normal again.
 abbrev pub run : History
 run =
-    record { call = Report (turn_at 1) false; answer = Done Cut }
-    ∷ record { call = Begin; answer = Turn (turn_at 1) }
-    ∷ record { call = Report (turn_at 0) false; answer = Done GoesOn }
-    ∷ record { call = Begin; answer = Turn (turn_at 0) }
-    ∷ record { call = Arrive 1 Normal; answer = Refused (record { refusal = HelperInAbnormalMode; layer = Session; place = 1 }) }
-    ∷ record { call = Arrive 0 Abnormal; answer = Block 2 }
+    record { call = Report (turn_at 1) false; answer = Ok (Done Cut) }
+    ∷ record { call = Begin; answer = Ok (Turn (turn_at 1)) }
+    ∷ record { call = Report (turn_at 0) false; answer = Ok (Done GoesOn) }
+    ∷ record { call = Begin; answer = Ok (Turn (turn_at 0)) }
+    ∷ record { call = Arrive 1 Normal; answer = Err (record { refusal = HelperInAbnormalMode; layer = Session; place = 1 }) }
+    ∷ record { call = Arrive 0 Abnormal; answer = Ok (Block 2) }
     ∷ []
 
 pub record Example : Type 0 where

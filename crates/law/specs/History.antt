@@ -1,11 +1,11 @@
 -- Histories of calls and answers, and what they tell of a session: its clock, jobs, mode, open turn and free blocks.
 -- Assumes nothing.
-use Rattle.std.specs.Prelude.{ℕ, zero, suc, Bool, false, cond, ◌||◌, List, [], ◌∷◌, length, Some, None, Option, ◌==◌, slice_index_or}
+use Rattle.std.specs.Prelude.{ℕ, zero, suc, Bool, false, cond, ◌||◌, List, [], ◌∷◌, length, Some, None, Option, ◌==◌, slice_index_or, Ok}
 use Rattle.row.specs.declared.rows.Kind.{Kind}
 use Rattle.row.specs.declared.rows.Kind.TheVariants.{Normal}
 use Rattle.row.specs.declared.rows.Row.{Row}
-use Rattle.law.specs.declared.calls.Answer.{Answer}
-use Rattle.law.specs.declared.calls.Answer.TheVariants.{Done}
+use Rattle.law.specs.Answer.{Answer}
+use Rattle.law.specs.declared.calls.Reply.TheVariants.{Done}
 use Rattle.law.specs.declared.calls.Call.{Call}
 use Rattle.law.specs.declared.calls.Call.TheVariants.{Begin, Report}
 use Rattle.law.specs.declared.calls.Job.{Job}
@@ -74,11 +74,6 @@ abbrev pub disturbed : History → ℕ → Bool
 disturbed [] r = false
 disturbed (e ∷ h) r = disturbed_after (change_of e) r (disturbed h r)
 
--- the history of the first n of a list of calls, whose answers were written to a log
-abbrev pub logged : List Call → List Answer → ℕ → History
-logged calls log zero = []
-logged calls log (suc n) = record { call = slice_index_or calls n Begin; answer = slice_index_or log n (Done Idle) } ∷ logged calls log n
-
 -- The call that a step comes to when this turn is open. Where none is, a report of the open turn has only an idle
 -- turn to bring, which is refused like any other.
 abbrev pub no_turn : TurnNumbers
@@ -89,9 +84,18 @@ made o (Given c) = c
 made (Some t) (ReportOpen finished) = Report t finished
 made None (ReportOpen finished) = Report no_turn finished
 
--- the history of the first n of a list of steps, whose answers were written to a log
+-- The history of the first n lines of a list, whose answers were written to a log. `makes` gives the call that a line
+-- makes when this turn is open, and `past` is the line that is read past the end of the list.
+abbrev pub logged_by : {L : Type 0} → (Option TurnNumbers → L → Call) → L → List L → List Answer → ℕ → History
+logged_by makes past lines log zero = []
+logged_by makes past lines log (suc n) =
+    let before : History = logged_by makes past lines log n in
+    record { call = makes (open_turn_at before) (slice_index_or lines n past); answer = slice_index_or log n (Ok (Done Idle)) } ∷ before
+
+-- of a list of calls, each of which is made as it stands
+abbrev pub logged : List Call → List Answer → ℕ → History
+logged calls log n = logged_by (λ o c. c) Begin calls log n
+
+-- of a list of steps
 abbrev pub logged_steps : List Step → List Answer → ℕ → History
-logged_steps steps log zero = []
-logged_steps steps log (suc n) =
-    let before : History = logged_steps steps log n in
-    record { call = made (open_turn_at before) (slice_index_or steps n (Given Begin)); answer = slice_index_or log n (Done Idle) } ∷ before
+logged_steps steps log n = logged_by made (Given Begin) steps log n

@@ -4,7 +4,7 @@
 -- unended job with its kind, arrival and block, and the free blocks. It is lawful if each answer is one that the rules
 -- allow. Each record below says what is never seen at any point of a lawful history; `rows` are the rows of the plan,
 -- `free₀` the blocks that were free at opening.
-use Rattle.std.specs.Prelude.{◌≡◌, ℕ, ◌+◌, ◌<◌, ◌≤◌, Bool, true, false, ◌⊎◌, List, [], ◌∷◌, length, take, Some, slice_index_or}
+use Rattle.std.specs.Prelude.{◌≡◌, ℕ, ◌+◌, ◌<◌, ◌≤◌, Bool, true, false, ◌⊎◌, List, [], ◌∷◌, length, take, Some, slice_index_or, Err}
 use Rattle.row.specs.Rows.{short_of, long_of, is_track}
 use Rattle.row.specs.declared.faults.Fault.{Fault}
 use Rattle.row.specs.declared.faults.Refusal.TheVariants.{NoFreeBlock}
@@ -14,7 +14,6 @@ use Rattle.row.specs.declared.rows.Row.{Row}
 use Rattle.judge.specs.Accepted.{Accepted}
 use Rattle.judge.specs.Bounds.{NormalBound, MixedBound, LongBound}
 use Rattle.judge.specs.declared.bounds.Bounds.{Bounds}
-use Rattle.law.specs.declared.calls.Answer.TheVariants.{Refused}
 use Rattle.law.specs.declared.calls.Call.TheVariants.{Arrive}
 use Rattle.law.specs.declared.calls.Job.{Job}
 use Rattle.law.specs.Checks.{count}
@@ -67,7 +66,7 @@ Strayed rows free₀ now h = (b : ℕ) × (slice_index_or free₀ b false ≡ tr
 abbrev pub Starved : List Row → List Bool → History → Type 0
 Starved rows free₀ [] = ⊥
 Starved rows free₀ (e ∷ h) = (r : ℕ) × (k : Kind) × (f : Fault)
-    × (e.call ≡ Arrive r k) × (e.answer ≡ Refused f) × (f.refusal ≡ NoFreeBlock) × (length rows ≤ count free₀)
+    × (e.call ≡ Arrive r k) × (e.answer ≡ Err f) × (f.refusal ≡ NoFreeBlock) × (length rows ≤ count free₀)
 
 -- at the end of the history h none of these is seen
 pub record Sound (rows : List Row) (free₀ : List Bool) (h : History) : Type 0 where

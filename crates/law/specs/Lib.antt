@@ -1,3 +1,4 @@
+pub mod Answer
 pub mod State
 pub mod History
 pub mod Checks
@@ -5,3 +6,4 @@ pub mod Rules
 pub mod Law
 pub mod Represents
 pub mod Example
+pub mod Texts

@@ -3,11 +3,11 @@
 -- A call to which a check applies is refused by the first that does. Otherwise an arrival is answered by a free block,
 -- begin by a turn for the smallest row with an unended job or an idle turn where there is none, and a report by what
 -- became of the job that the turn was for. Which free block an arrival gets is all that the rules leave open.
-use Rattle.std.specs.Prelude.{◌≡◌, ℕ, ◌<◌, Bool, true, false, cond, List, [], ◌∷◌, Some, None, Option, slice_index_or}
+use Rattle.std.specs.Prelude.{◌≡◌, ℕ, ◌<◌, Bool, true, false, cond, List, [], ◌∷◌, Some, None, Option, slice_index_or, Ok, Err}
 use Rattle.row.specs.declared.faults.Fault.{Fault}
 use Rattle.row.specs.declared.rows.Row.{Row}
-use Rattle.law.specs.declared.calls.Answer.{Answer}
-use Rattle.law.specs.declared.calls.Answer.TheVariants.{Block, Turn, Done, Refused}
+use Rattle.law.specs.Answer.{Answer}
+use Rattle.law.specs.declared.calls.Reply.TheVariants.{Block, Turn, Done}
 use Rattle.law.specs.declared.calls.Call.{Call}
 use Rattle.law.specs.declared.calls.Call.TheVariants.{Arrive, Begin, Report}
 use Rattle.law.specs.declared.calls.Job.{Job}
@@ -48,13 +48,13 @@ outcome rows s finished None = Idle
 
 -- the answers to a call to which no check applies
 abbrev pub Accepts : List Row → ℕ → State → Call → Answer → Type 0
-Accepts rows number s (Arrive r k) a = (b : ℕ) × (a ≡ Block b) × (slice_index_or s.free b false ≡ true)
-Accepts rows number s Begin a = (t : TurnNumbers) × (a ≡ Turn t) × Opens number s t
-Accepts rows number s (Report t finished) a = a ≡ Done (outcome rows s finished t.work)
+Accepts rows number s (Arrive r k) a = (b : ℕ) × (a ≡ Ok (Block b)) × (slice_index_or s.free b false ≡ true)
+Accepts rows number s Begin a = (t : TurnNumbers) × (a ≡ Ok (Turn t)) × Opens number s t
+Accepts rows number s (Report t finished) a = a ≡ Ok (Done (outcome rows s finished t.work))
 
 -- the answers to a call whose checks gave this fault, or gave none
 abbrev pub Answers : List Row → ℕ → State → Call → Answer → Option Fault → Type 0
-Answers rows number s c a (Some fault) = a ≡ Refused fault
+Answers rows number s c a (Some fault) = a ≡ Err fault
 Answers rows number s c a None = Accepts rows number s c a
 
 -- a is an answer that the rules allow to the call c in the state s

@@ -1,13 +1,13 @@
 -- What there is to know of a session at one point, and what a call with its answer makes of it. Assumes nothing.
-use Rattle.std.specs.Prelude.{ℕ, zero, suc, ◌+◌, Bool, true, false, cond, not, ◌&&◌, ◌||◌, List, length, is_some, Some, None, Option, ◌==◌, nat_le, slice_index_or, slice_set}
-use Rattle.std.proofs.Common.{lit≤}
+use Rattle.std.specs.Prelude.{ℕ, zero, suc, ◌+◌, Bool, true, false, cond, not, ◌&&◌, ◌||◌, List, length, is_some, Some, None, Option, ◌==◌, nat_le, slice_index_or, slice_set, Ok, Err}
+use Rattle.std.proofs.Common.{lit≤, Ok, Err}
 use Rattle.row.specs.Rows.{period_of, short_of, long_of}
 use Rattle.row.specs.declared.rows.Kind.{Kind}
 use Rattle.row.specs.declared.rows.Kind.TheVariants.{Normal, Abnormal}
 use Rattle.row.specs.declared.rows.Row.{Row}
 use Rattle.row.specs.declared.rows.Row.TheVariants.{Helper}
-use Rattle.law.specs.declared.calls.Answer.{Answer}
-use Rattle.law.specs.declared.calls.Answer.TheVariants.{Block, Turn, Done, Refused}
+use Rattle.law.specs.Answer.{Answer}
+use Rattle.law.specs.declared.calls.Reply.TheVariants.{Block, Turn, Done}
 use Rattle.law.specs.declared.calls.Call.{Call}
 use Rattle.law.specs.declared.calls.Call.TheVariants.{Arrive, Begin, Report}
 use Rattle.law.specs.declared.calls.Job.{Job}
@@ -41,16 +41,16 @@ pub data Change : Type 0 where
   nothing : Change
 
 abbrev pub change : Call → Answer → Change
-change (Arrive r k) (Block b) = admits r k b
-change (Arrive r k) (Turn t) = nothing
-change (Arrive r k) (Done o) = nothing
-change Begin (Block b) = nothing
-change Begin (Turn t) = opens t
-change Begin (Done o) = nothing
-change (Report t f) (Block b) = nothing
-change (Report t f) (Turn u) = nothing
-change (Report t f) (Done o) = reports t f
-change c (Refused f) = nothing
+change (Arrive r k) (Ok (Block b)) = admits r k b
+change (Arrive r k) (Ok (Turn t)) = nothing
+change (Arrive r k) (Ok (Done o)) = nothing
+change Begin (Ok (Block b)) = nothing
+change Begin (Ok (Turn t)) = opens t
+change Begin (Ok (Done o)) = nothing
+change (Report t f) (Ok (Block b)) = nothing
+change (Report t f) (Ok (Turn u)) = nothing
+change (Report t f) (Ok (Done o)) = reports t f
+change c (Err f) = nothing
 
 -- the clock counts the accepted reports
 abbrev pub clock_after : Change → ℕ → ℕ

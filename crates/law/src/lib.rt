@@ -5,8 +5,11 @@ ghost use Rattle.law.specs.Example.{Example};
 ghost use Rattle.law.specs.Law.{TheLaw};
 
 mod calls;
+mod lines;
+mod texts;
 
-pub use calls::{Answer, Call, Job, Outcome, Step, TurnNumbers, Work};
+pub use calls::{Answer, Call, Job, Outcome, Reply, Step, TurnNumbers, Work};
+pub use lines::Line;
 
 // On every accepted plan, whatever is called, no job is late and no block is shared, lost or wanting.
 pub fn law_holds()

@@ -1,5 +1,5 @@
 -- An arrival takes a block and makes a job, or finds no block free. Assumes nothing.
-use Rattle.std.proofs.Common.{◌≡◌, ℕ, ◌+◌, ◌<◌, Bool, true, false, cond, eqb, List, [], ◌∷◌, length, get_or, set, is_some, Some, None, Option, sym, refl, ap, ◌∙◌, arith}
+use Rattle.std.proofs.Common.{◌≡◌, ℕ, ◌+◌, ◌<◌, Bool, true, false, cond, eqb, List, [], ◌∷◌, length, get_or, set, is_some, Some, None, sym, refl, ap, ◌∙◌, arith}
 use Rattle.std.proofs.lemmas.List.Sums.{sum_by-cons}
 use Rattle.std.proofs.lemmas.Bool.{eq-eqb, ne_eqb}
 use Rattle.row.specs.Rows.{period_of}
@@ -8,15 +8,16 @@ use Rattle.row.specs.declared.rows.Kind.{Kind}
 use Rattle.row.specs.declared.rows.Row.{Row}
 use Rattle.sets.specs.Sets.{member, size, IsEmpty}
 use Rattle.sets.proofs.Members.{empty_none, size_leave}
-use Rattle.law.specs.declared.calls.Job.{Job}
 use Rattle.law.specs.Checks.{count}
 use Rattle.law.specs.State.{State, after, admits, row_at, new_job}
 use Rattle.law.proofs.Represents.{same_state, set_by}
 use Rattle.session.specs.Arrivals.{Admitted, wanting}
 use Rattle.session.specs.Faults.{fault_in}
+use Rattle.session.specs.RowStates.{new_row}
+use Rattle.session.specs.declared.row_state.RowState.{RowState}
 use Rattle.session.specs.View.{rows_in, job_of, state_of, view, Tied}
 use Rattle.session.specs.declared.session.Session.{Session}
-use Rattle.session.proofs.Tables.{has_place, joined-set}
+use Rattle.session.proofs.Tables.{has_place, joined-set, told_by}
 
 -- the law counts the blocks as the pools do
 size-count : (blocks : List Bool) → size blocks ≡ count blocks
@@ -41,13 +42,12 @@ module _ {B P : Type 0} where
       → view free s' ≡ after (rows_in s) (state_of blocks s) (admits r k b)
   admitted_next on free s s' a r k b blocks done in_plan is taken =
       let place = has_place s r in_plan in
-      let new : ℕ → Option Job → Option Job = λ _ _. Some (new_job k s.clock b) in
-      let from : ℕ → ℕ → ℕ = λ q _. s.clock + period_of (row_at (rows_in s) q) in
-      let fits : r < length s.jobs = omega arith in
-      let fits' : r < length s.ready = omega arith in
+      let new : ℕ → RowState → RowState = λ q _. record { job = Some (new_job k s.clock b); ready = s.clock + period_of (row_at (rows_in s) q) } in
+      let fits : r < length s.rows = omega arith in
+      let rows = done.rows ∙ ap (λ z. set s.rows r (record { job = Some (new_job k s.clock b); ready = s.clock + period_of z })) (sym is) in
       same_state _ _ done.clock done.mode
-      (λ q. ap (λ z. get_or z q None) done.jobs ∙ set_by new s.jobs r None q fits)
-      (λ q. ap (λ z. get_or z q 0) (done.ready ∙ ap (λ z. set s.ready r (s.clock + period_of z)) (sym is)) ∙ set_by from s.ready r 0 q fits')
+      (λ q. ap (λ z. (get_or z q new_row).job) rows ∙ told_by (λ x. x.job) new s.rows r q fits)
+      (λ q. ap (λ z. (get_or z q new_row).ready) rows ∙ told_by (λ x. x.ready) new s.rows r q fits)
       done.turn (ap free done.pool ∙ taken)
 
   -- and the board still has the rows with an unended job
@@ -55,12 +55,12 @@ module _ {B P : Type 0} where
       → Admitted on s a r k b s' → r < length (rows_in s) → Tied on s → Tied on s'
   admitted-tied on s s' a r k b range done in_plan tied q =
       let place = has_place s r in_plan in
-      let fits : r < length s.jobs = omega arith in
+      let fits : r < length s.rows = omega arith in
       let fits' : r < length (on s.board) = omega arith in
       let yes : get_or (on s'.board) q false ≡ cond (eqb r q) true (get_or (on s.board) q false)
       = ap (λ z. get_or z q false) (done.board ∙ joined-set (on s.board) r) ∙ set_by (λ _ _. true) (on s.board) r false q fits' in
       let job : job_of s' q ≡ cond (eqb r q) (Some (new_job k s.clock b)) (job_of s q)
-      = ap (λ z. get_or z q None) done.jobs ∙ set_by (λ _ _. Some (new_job k s.clock b)) s.jobs r None q fits in
+      = ap (λ z. (get_or z q new_row).job) done.rows ∙ told_by (λ x. x.job) (λ _ _. record { job = Some (new_job k s.clock b); ready = s.clock + period_of a }) s.rows r q fits in
       yes ∙ by (eqb r q) ∙ sym (ap is_some job)
     where
       by : (t : Bool) → cond t true (get_or (on s.board) q false) ≡ is_some (cond t (Some (new_job k s.clock b)) (job_of s q))

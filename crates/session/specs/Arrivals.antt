@@ -23,9 +23,9 @@ abbrev pub wanting : State → ℕ → Option Fault
 wanting s r = cond (count s.free == 0) (Some (fault_in (record { refusal = NoFreeBlock; place = r }))) None
 
 -- what all checks come to, when those before the last came to this: the same fault, or else what the last one gives
-abbrev pub Checked : Option Fault → State → ℕ → Option SessionFault → Type 0
-Checked all s r (Some e) = all ≡ Some (fault_in e)
-Checked all s r None = all ≡ wanting s r
+abbrev pub Checked : Option Fault → State → ℕ → Result Unit SessionFault → Type 0
+Checked all s r (Err e) = all ≡ Some (fault_in e)
+Checked all s r (Ok _) = all ≡ wanting s r
 
 -- an arrival is refused by this fault; or it is of this row of the plan, and is admitted if no block is wanting
 abbrev pub Admissible : List Row → State → ℕ → Kind → Result Row SessionFault → Type 0
@@ -40,6 +40,5 @@ pub record Admitted {B P : Type 0} (on : B → List Bool) (s : Session B P) (a :
   pub number : s'.number ≡ s.number
   pub clock : s'.clock ≡ s.clock
   pub mode : s'.mode ≡ mode_with k s.mode
-  pub jobs : s'.jobs ≡ slice_set s.jobs r (Some (new_job k s.clock b))
-  pub ready : s'.ready ≡ slice_set s.ready r (s.clock + period_of a)
+  pub rows : s'.rows ≡ slice_set s.rows r (record { job = Some (new_job k s.clock b); ready = s.clock + period_of a })
   pub turn : s'.turn ≡ s.turn

@@ -1,8 +1,8 @@
 -- A session as the law sees it. Assumes nothing.
-use Rattle.std.specs.Prelude.{◌≡◌, ℕ, Bool, false, List, ◌∷◌, is_some, None, Option, slice_index, slice_index_or}
+use Rattle.std.specs.Prelude.{◌≡◌, ℕ, Bool, false, List, ◌∷◌, is_some, Option, slice_index_or}
 use Rattle.row.specs.declared.rows.Row.{Row}
 use Rattle.judge.specs.Plan.{rows_of}
-use Rattle.law.specs.declared.calls.Answer.{Answer}
+use Rattle.law.specs.Answer.{Answer}
 use Rattle.law.specs.declared.calls.Call.{Call}
 use Rattle.law.specs.declared.calls.Job.{Job}
 use Rattle.law.specs.History.{History}
@@ -10,6 +10,7 @@ use Rattle.law.specs.Law.{Sound, Throughout}
 use Rattle.law.specs.Represents.{Represents}
 use Rattle.law.specs.Rules.{Rules}
 use Rattle.law.specs.State.{State, after, change}
+use Rattle.session.specs.RowStates.{new_row}
 use Rattle.session.specs.declared.session.Session.{Session}
 
 module _ {B P : Type 0} where
@@ -19,11 +20,15 @@ module _ {B P : Type 0} where
 
   -- the unended job of row r
   abbrev pub job_of : Session B P → ℕ → Option Job
-  job_of s r = slice_index_or s.jobs r None
+  job_of s r = (slice_index_or s.rows r new_row).job
+
+  -- the clock from which row r may arrive again
+  abbrev pub ready_of : Session B P → ℕ → ℕ
+  ready_of s r = (slice_index_or s.rows r new_row).ready
 
   -- the state of a session, where these blocks are free
   abbrev pub state_of : List Bool → Session B P → State
-  state_of blocks s = record { clock = s.clock; mode = s.mode; job = job_of s; ready = λ r. slice_index s.ready r; open_turn = s.turn; free = blocks }
+  state_of blocks s = record { clock = s.clock; mode = s.mode; job = job_of s; ready = ready_of s; open_turn = s.turn; free = blocks }
 
   -- The state of a session. What a board and a pool mean comes with them: `on` gives the rows on a board, `free` the
   -- free blocks of a pool.

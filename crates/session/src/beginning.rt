@@ -6,7 +6,7 @@ ghost use Rattle.law.specs.declared.calls.Call.TheVariants.{Begin};
 ghost use Rattle.session.specs.Answers.{begun, found};
 ghost use Rattle.session.specs.View.{job_of, view, Tied, Allowed, Next, Extended};
 
-use super::faults::SessionFault;
+use super::faults::{SessionFault, refuse_if};
 use super::session::{LAST_CLOCK, Session};
 use super::turn::Turn;
 use board::Board;
@@ -21,9 +21,7 @@ impl<'p, B: Board, P: Pool> Session<'p, B, P> {
         ensures next { Next P.Pool.free self.old Begin (begun result) self.new }
         ensures history { Extended B.Board.rows P.Pool.free self.old Begin (begun result) self.new }
     {
-        if let Some(fault) = self.not_ready() {
-            return Err(fault);
-        }
+        self.ready_to_start()?;
         let numbers = TurnNumbers {
             number: self.number,
             clock: self.clock,
@@ -33,23 +31,12 @@ impl<'p, B: Board, P: Pool> Session<'p, B, P> {
         Ok(Turn { numbers })
     }
 
-    // Why neither an arrival nor a turn can come now, if so.
-    pub(crate) fn not_ready(&self) -> Option<SessionFault>
+    // Whether an arrival or a turn can come now, or why not.
+    pub(crate) fn ready_to_start(&self) -> Result<(), SessionFault>
         ensures { found result ≡ first_fault (start_checks (view P.Pool.free self.now)) }
     {
-        if self.turn.is_some() {
-            return Some(SessionFault {
-                refusal: Refusal::TurnOpen,
-                place: self.clock,
-            });
-        }
-        if self.clock == LAST_CLOCK {
-            return Some(SessionFault {
-                refusal: Refusal::ClockFull,
-                place: self.clock,
-            });
-        }
-        None
+        refuse_if(self.turn.is_some(), Refusal::TurnOpen, self.clock)?;
+        refuse_if(self.clock == LAST_CLOCK, Refusal::ClockFull, self.clock)
     }
 
     // The board's first row and the block that its job holds.

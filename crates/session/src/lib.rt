@@ -7,12 +7,12 @@ mod faults;
 mod opening;
 mod replaying;
 mod reporting;
+mod row_state;
 mod session;
-mod stepping;
+mod ticking;
 mod turn;
 
 pub use faults::SessionFault;
-pub use replaying::replay;
+pub use replaying::{lists_replayed, replay};
 pub use session::Session;
-pub use stepping::replay_steps;
 pub use turn::{NotReported, Turn};

@@ -3,7 +3,8 @@ ghost use Rattle.std.specs.Prelude.{◌≡◌, ◌≤◌, [], length, None};
 ghost use Rattle.judge.specs.Plan.{rows_of};
 ghost use Rattle.session.specs.View.{rows_in, job_of, Follows, SoundSoFar};
 
-use super::session::{PLACES, Session};
+use super::row_state::NEW_ROW;
+use super::session::Session;
 use board::Board;
 use judge::Plan;
 use law::Job;
@@ -24,8 +25,7 @@ impl<'p, B: Board, P: Pool> Session<'p, B, P> {
             number,
             clock: 0,
             mode: Kind::Normal,
-            jobs: [None; 32],
-            ready: [0; 32],
+            rows: [NEW_ROW; 32],
             turn: None,
         }
     }
@@ -35,6 +35,7 @@ impl<'p, B: Board, P: Pool> Session<'p, B, P> {
         ensures parts { result ≡ (self.entry.board, self.entry.pool) }
         ensures law { SoundSoFar B.Board.rows P.Pool.free self.entry }
     {
+        // A session is not dropped, so it is taken apart whole.
         let Session {
             plan: _plan,
             board,
@@ -42,8 +43,7 @@ impl<'p, B: Board, P: Pool> Session<'p, B, P> {
             number: _number,
             clock: _clock,
             mode: _mode,
-            jobs: _jobs,
-            ready: _ready,
+            rows: _rows,
             turn: _turn,
         } = self;
         (board, pool)
@@ -68,10 +68,6 @@ impl<'p, B: Board, P: Pool> Session<'p, B, P> {
         ensures answer { result ≡ job_of self.now row }
         ensures in_plan { length (rows_in self.now) ≤ row → result ≡ None }
     {
-        if row < PLACES {
-            self.jobs[row as usize]
-        } else {
-            None
-        }
+        self.rows.get(row as usize)?.job
     }
 }

@@ -3,14 +3,14 @@ ghost use Rattle.std.specs.Prelude.{◌≡◌, length, if◌then◌else◌, Some
 ghost use Rattle.row.specs.declared.rows.Kind.TheVariants.{Normal};
 ghost use Rattle.law.specs.declared.calls.Call.TheVariants.{Report};
 ghost use Rattle.law.specs.declared.calls.Outcome.TheVariants.{Finished, Cut};
-ghost use Rattle.law.specs.Checks.{first_fault, report_checks, same_turn, same_work};
+ghost use Rattle.law.specs.Checks.{first_fault, report_checks};
 ghost use Rattle.law.specs.Rules.{outcome};
 ghost use Rattle.law.specs.State.{after_tick, budget_of, quiet_below};
 ghost use Rattle.session.specs.Answers.{found, settled, reported};
 ghost use Rattle.session.specs.Reports.{Worked};
 ghost use Rattle.session.specs.View.{rows_in, job_of, view, Tied, Allowed, Next, Extended};
 
-use super::faults::SessionFault;
+use super::faults::{SessionFault, refuse_if};
 use super::session::Session;
 use super::turn::{NotReported, Turn};
 use board::Board;
@@ -26,6 +26,7 @@ impl<'p, B: Board, P: Pool> Session<'p, B, P> {
         ensures history { Extended B.Board.rows P.Pool.free self.old (Report turn.numbers finished) (reported result) self.new }
         ensures token { elim result [ Ok _ ↦ Unit {0} | Err e ↦ e.turn ≡ turn ] }
     {
+        // The turn goes back or is taken apart, so no closure of `map_err` can hold it.
         match self.report_numbers(turn.numbers, finished) {
             Err(fault) => Err(NotReported { fault, turn }),
             Ok(outcome) => {
@@ -45,9 +46,7 @@ impl<'p, B: Board, P: Pool> Session<'p, B, P> {
         ensures next { Tied B.Board.rows self.old → Next P.Pool.free self.old (Report turn finished) (settled result) self.new }
         ensures history { Extended B.Board.rows P.Pool.free self.old (Report turn finished) (settled result) self.new }
     {
-        if let Some(fault) = self.unreportable(turn, finished) {
-            return Err(fault);
-        }
+        self.reportable(turn, finished)?;
         let outcome = self.work(turn.work, finished);
         self.mode = self.mode_after();
         self.clock += 1;
@@ -55,27 +54,16 @@ impl<'p, B: Board, P: Pool> Session<'p, B, P> {
         Ok(outcome)
     }
 
-    // Why the report of a turn is refused, if it is.
-    fn unreportable(&self, turn: TurnNumbers, finished: bool) -> Option<SessionFault>
+    // Whether a turn can be reported, or why not.
+    fn reportable(&self, turn: TurnNumbers, finished: bool) -> Result<(), SessionFault>
         ensures { found result ≡ first_fault (report_checks (view P.Pool.free self.now) turn finished) }
     {
-        let open = match self.turn {
-            None => false,
-            Some(open) => same_turn(open, turn),
-        };
-        if !open {
-            return Some(SessionFault {
-                refusal: Refusal::NotOpenTurn,
-                place: self.clock,
-            });
-        }
-        if turn.work.is_none() && finished {
-            return Some(SessionFault {
-                refusal: Refusal::IdleFinished,
-                place: self.clock,
-            });
-        }
-        None
+        refuse_if(self.turn != Some(turn), Refusal::NotOpenTurn, self.clock)?;
+        refuse_if(
+            turn.work.is_none() && finished,
+            Refusal::IdleFinished,
+            self.clock,
+        )
     }
 
     // One tick for what the turn was for, if anything.
@@ -101,7 +89,7 @@ impl<'p, B: Board, P: Pool> Session<'p, B, P> {
             return Outcome::Idle;
         };
         let left = after_tick(asked, finished, job);
-        self.jobs[work.row as usize] = left;
+        self.rows[work.row as usize].job = left;
         if left.is_some() {
             return Outcome::GoesOn;
         }
@@ -129,10 +117,8 @@ fn after_tick(asked: Row, finished: bool, job: Job) -> Option<Job>
         return None;
     }
     Some(Job {
-        kind: job.kind,
-        arrival: job.arrival,
-        block: job.block,
         ticks: job.ticks + 1,
+        ..job
     })
 }
 
@@ -153,21 +139,5 @@ fn budget(asked: Row, kind: Kind) -> u32
     match kind {
         Kind::Normal => asked.short(),
         Kind::Abnormal => asked.long(),
-    }
-}
-
-fn same_turn(a: TurnNumbers, b: TurnNumbers) -> bool
-    ensures { result ≡ same_turn a b }
-{
-    a.number == b.number && a.clock == b.clock && same_work(a.work, b.work)
-}
-
-fn same_work(a: Option<Work>, b: Option<Work>) -> bool
-    ensures { result ≡ same_work a b }
-{
-    match (a, b) {
-        (Some(a), Some(b)) => a.row == b.row && a.block == b.block,
-        (None, None) => true,
-        _ => false,
     }
 }
