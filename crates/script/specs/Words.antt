@@ -1,8 +1,6 @@
 -- What the words of a script spell. Assumes nothing.
 use Rattle.std.specs.Prelude.{◌≡◌, ℕ, ◌^◌, ◌<◌, Bool, true, false, List, codes, Result, MatchResult}
 use Rattle.std.specs.Str.Parse.{IsNumeral, digits_value}
-use Rattle.row.specs.declared.rows.Kind.{Kind}
-use Rattle.row.specs.declared.rows.Kind.TheVariants.{Normal, Abnormal}
 use Rattle.script.specs.declared.commands.BoardName.{BoardName}
 use Rattle.script.specs.declared.commands.BoardName.TheVariants.{Word, Chain}
 use Rattle.script.specs.declared.commands.PoolName.{PoolName}
@@ -15,10 +13,6 @@ board_word Chain = codes "chain"
 abbrev pub pool_word : PoolName → List ℕ
 pool_word Bitmap = codes "bitmap"
 pool_word FreeList = codes "freelist"
-
-abbrev pub kind_word : Kind → List ℕ
-kind_word Normal = codes "normal"
-kind_word Abnormal = codes "abnormal"
 
 abbrev pub finished_word : Bool → List ℕ
 finished_word true = codes "finished"

@@ -1,8 +1,9 @@
 // Bytes from hexadecimal digits.
 ghost use Rattle.std.specs.Prelude.{◌≡◌, ◌+◌, ◌*◌, ◌<◌, [], ◌∷◌, ◌++◌, MatchOption, MatchResult};
 ghost use Rattle.script.specs.Hex.{HexDigit, is_white, hex_value, Decoded, Undecoded, Half, spelt, NotPut};
+ghost use Rattle.script.specs.declared.hex.HexFault.TheVariants.{NoMemory};
 
-use std::alloc::Global;
+use std::alloc::{AllocFailed, Global};
 
 // More than the longest line-up has, which is 1,345 bytes.
 const MOST_BYTES: usize = 2048;
@@ -17,7 +18,15 @@ pub enum HexFault {
     NoMemory,
 }
 
-// The bytes that the digits of a text spell, two for each; white space is passed over.
+impl<T: Drop> From<AllocFailed<T>> for HexFault {
+    ghost from_gives = { λ _ e. e ≡ NoMemory };
+
+    fn from(_e: AllocFailed<T>) -> HexFault {
+        HexFault::NoMemory
+    }
+}
+
+// The bytes that the digits of a text spell, two for each; white space is passed over, and a fault tells its place, as the kit's `hex` does not.
 pub fn decode(heap: Global, text: &str) -> Result<Vec<u8>, HexFault>
     ensures { MatchResult result (λ v. Decoded text.now v.items) (Undecoded text.now) }
 {
@@ -27,13 +36,8 @@ pub fn decode(heap: Global, text: &str) -> Result<Vec<u8>, HexFault>
         if is_white(*byte) {
             continue;
         }
-        let Some(digit) = hex_digit(*byte) else {
-            return Err(HexFault::NoDigit(at));
-        };
-        high = match pair(&mut bytes, high, digit) {
-            Ok(next) => next,
-            Err(fault) => return Err(fault),
-        };
+        let digit = hex_digit(*byte).ok_or(HexFault::NoDigit(at))?;
+        high = pair(&mut bytes, high, digit)?;
     }
     match high {
         None => Ok(bytes),
@@ -51,12 +55,8 @@ fn is_white(byte: u8) -> bool
 fn hex_digit(byte: u8) -> Option<u8>
     ensures { MatchOption result (HexDigit byte → ⊥) (λ v. HexDigit byte × (v ≡ hex_value byte) × (v < 16)) }
 {
-    match byte {
-        b'0'..=b'9' => Some(byte - b'0'),
-        b'a'..=b'f' => Some(byte - b'a' + 10),
-        b'A'..=b'F' => Some(byte - b'A' + 10),
-        _ => None,
-    }
+    let digit = char::from(byte).to_digit(16)?;
+    Some(digit as u8)
 }
 
 // One digit more. The first of a pair is kept, and with the second the pair becomes a byte.
@@ -70,8 +70,6 @@ fn pair(bytes: &mut Vec<u8>, high: Option<u8>, digit: u8) -> Result<Option<u8>, 
     if bytes.len() >= MOST_BYTES {
         return Err(HexFault::TooLong);
     }
-    match bytes.push(first * 16 + digit) {
-        Ok(()) => Ok(None),
-        Err(_) => Err(HexFault::NoMemory),
-    }
+    bytes.push(first * 16 + digit)?;
+    Ok(None)
 }

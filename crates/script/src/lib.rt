@@ -7,4 +7,4 @@ mod words;
 
 pub use commands::{BoardName, Opening, PoolName, Wrong};
 pub use hex::{HexFault, decode};
-pub use words::{block_count, board_name, is_finished, job_kind, pool_name, whole};
+pub use words::{Keyword, block_count, read_keyword, whole};

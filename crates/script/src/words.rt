@@ -1,9 +1,91 @@
 // What single words of a script say.
-ghost use Rattle.std.specs.Prelude.{◌≡◌, ◌≤◌, ◌==◌, slice_index};
-ghost use Rattle.script.specs.Words.{board_word, pool_word, kind_word, finished_word, Spells, Read};
+ghost use Rattle.std.specs.Prelude.{◌≡◌, ℕ, ◌≤◌, ◌==◌, List, slice_index, MatchOption};
+ghost use Rattle.row.specs.Kinds.{kind_word};
+ghost use Rattle.script.specs.Words.{board_word, pool_word, finished_word, Spells, Read};
 
 use super::commands::{BoardName, PoolName, Wrong};
 use row::Kind;
+
+// A value that a script writes as one of a few words. Not `FromStr`, which two of the types may not get here: they are of other crates.
+pub trait Keyword: Sized {
+    // the word of a value
+    ghost spelling: { Self → List ℕ };
+
+    // What has to stand in the word's place.
+    const EXPECTED: &'static str;
+
+    // The value of this word, if it is one of them. The match of each impl is its table of words.
+    fn from_word(word: &str) -> Option<Self>
+        ensures { MatchOption result ((x : Self) → word.now ≡ spelling x → ⊥) (λ x. word.now ≡ spelling x) };
+}
+
+// The value of which this is the word.
+pub fn read_keyword<'a, T: Keyword>(word: &'a str) -> Result<T, Wrong<'a>>
+    ensures { Read (λ x. word.now ≡ T.spelling x) result }
+{
+    T::from_word(word).ok_or(Wrong::Word {
+        expected: T::EXPECTED,
+        found: word,
+    })
+}
+
+impl Keyword for BoardName {
+    ghost spelling = { board_word };
+
+    const EXPECTED: &'static str = "BOARD, word or chain";
+
+    fn from_word(word: &str) -> Option<Self> {
+        match word {
+            "word" => Some(BoardName::Word),
+            "chain" => Some(BoardName::Chain),
+            _ => None,
+        }
+    }
+}
+
+impl Keyword for PoolName {
+    ghost spelling = { pool_word };
+
+    const EXPECTED: &'static str = "POOL, bitmap or freelist";
+
+    fn from_word(word: &str) -> Option<Self> {
+        match word {
+            "bitmap" => Some(PoolName::Bitmap),
+            "freelist" => Some(PoolName::FreeList),
+            _ => None,
+        }
+    }
+}
+
+// As it is printed.
+impl Keyword for Kind {
+    ghost spelling = { kind_word };
+
+    const EXPECTED: &'static str = "normal or abnormal";
+
+    fn from_word(word: &str) -> Option<Self> {
+        match word {
+            "normal" => Some(Kind::Normal),
+            "abnormal" => Some(Kind::Abnormal),
+            _ => None,
+        }
+    }
+}
+
+// Whether a job is reported finished.
+impl Keyword for bool {
+    ghost spelling = { finished_word };
+
+    const EXPECTED: &'static str = "finished or unfinished";
+
+    fn from_word(word: &str) -> Option<Self> {
+        match word {
+            "finished" => Some(true),
+            "unfinished" => Some(false),
+            _ => None,
+        }
+    }
+}
 
 // The number that the word spells in decimal digits.
 pub fn whole<'a>(word: &'a str, expected: &'static str) -> Result<u32, Wrong<'a>>
@@ -13,21 +95,11 @@ pub fn whole<'a>(word: &'a str, expected: &'static str) -> Result<u32, Wrong<'a>
         expected,
         found: word,
     };
-    if has_plus(word) {
+    // `parse` would pass over a plus sign
+    if word.starts_with('+') {
         return Err(wrong);
     }
-    match word.parse::<u32>() {
-        Ok(number) => Ok(number),
-        Err(_) => Err(wrong),
-    }
-}
-
-// Whether a plus sign comes first, which `parse` would pass over.
-fn has_plus(word: &str) -> bool
-    ensures { result ≡ (slice_index word.now 0 == 43) }
-{
-    let bytes = word.as_bytes();
-    bytes.len() > 0 && bytes[0] == b'+'
+    word.parse::<u32>().map_err(|_| wrong)
 }
 
 // A number of blocks, 1 to 64.
@@ -35,73 +107,10 @@ pub fn block_count<'a>(word: &'a str) -> Result<u32, Wrong<'a>>
     ensures { Read (λ n. Spells word.now n × (1 ≤ n) × (n ≤ 64)) result }
 {
     let expected = "BLOCKS, a whole number from 1 to 64";
-    let wrong = Wrong::Word {
-        expected,
-        found: word,
-    };
-    match whole(word, expected) {
-        Ok(blocks) => {
-            if 1 <= blocks && blocks <= 64 {
-                Ok(blocks)
-            } else {
-                Err(wrong)
-            }
-        }
-        Err(_) => Err(wrong),
-    }
-}
-
-// `word` or `chain`.
-pub fn board_name<'a>(word: &'a str) -> Result<BoardName, Wrong<'a>>
-    ensures { Read (λ b. word.now ≡ board_word b) result }
-{
-    match word {
-        "word" => Ok(BoardName::Word),
-        "chain" => Ok(BoardName::Chain),
+    match whole(word, expected)? {
+        blocks @ 1..=64 => Ok(blocks),
         _ => Err(Wrong::Word {
-            expected: "BOARD, word or chain",
-            found: word,
-        }),
-    }
-}
-
-// `bitmap` or `freelist`.
-pub fn pool_name<'a>(word: &'a str) -> Result<PoolName, Wrong<'a>>
-    ensures { Read (λ p. word.now ≡ pool_word p) result }
-{
-    match word {
-        "bitmap" => Ok(PoolName::Bitmap),
-        "freelist" => Ok(PoolName::FreeList),
-        _ => Err(Wrong::Word {
-            expected: "POOL, bitmap or freelist",
-            found: word,
-        }),
-    }
-}
-
-// `normal` or `abnormal`.
-pub fn job_kind<'a>(word: &'a str) -> Result<Kind, Wrong<'a>>
-    ensures { Read (λ k. word.now ≡ kind_word k) result }
-{
-    match word {
-        "normal" => Ok(Kind::Normal),
-        "abnormal" => Ok(Kind::Abnormal),
-        _ => Err(Wrong::Word {
-            expected: "normal or abnormal",
-            found: word,
-        }),
-    }
-}
-
-// `finished` or `unfinished`.
-pub fn is_finished<'a>(word: &'a str) -> Result<bool, Wrong<'a>>
-    ensures { Read (λ f. word.now ≡ finished_word f) result }
-{
-    match word {
-        "finished" => Ok(true),
-        "unfinished" => Ok(false),
-        _ => Err(Wrong::Word {
-            expected: "finished or unfinished",
+            expected,
             found: word,
         }),
     }

@@ -7,16 +7,14 @@ mod running;
 mod table;
 mod timeline;
 
-use reading::{Script, text_of};
+use reading::Script;
 use std::io;
 use std::io::Read;
 
 fn main(rt: HostRuntime) -> io::Result<()> {
     let mut input = Vec::new(rt.alloc());
     let _ = rt.stdin().read_to_end(&mut input)?;
-    let (text, cut) = text_of(input.as_slice());
-    let mut script = Script::new(rt.alloc());
-    script.read(rt.alloc(), text, cut)?;
+    let script = Script::read(rt.alloc(), input.as_slice())?;
     let out = running::run(rt.alloc(), &script)?;
     rt.print(out.as_str())
 }

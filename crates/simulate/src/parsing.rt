@@ -1,6 +1,6 @@
 // Commands from the words of a line.
 use law::{Call, Step, TurnNumbers, Work};
-use script::{Opening, Wrong, block_count, board_name, is_finished, job_kind, pool_name, whole};
+use script::{Opening, Wrong, block_count, read_keyword, whole};
 
 #[derive(Clone, Copy)]
 pub enum Command {
@@ -54,8 +54,8 @@ fn opening<'a>(
     number: &'a str,
 ) -> Result<Command, Wrong<'a>> {
     Ok(Command::Open(Opening {
-        board: board_name(board)?,
-        pool: pool_name(pool)?,
+        board: read_keyword(board)?,
+        pool: read_keyword(pool)?,
         blocks: block_count(blocks)?,
         number: whole(number, "NUMBER, a whole number below 4294967296")?,
     }))
@@ -63,12 +63,12 @@ fn opening<'a>(
 
 fn arrival<'a>(row: &'a str, kind: &'a str) -> Result<Command, Wrong<'a>> {
     let row = whole(row, "ROW, a whole number below 4294967296")?;
-    let kind = job_kind(kind)?;
+    let kind = read_keyword(kind)?;
     Ok(Command::Call(Step::Given(Call::Arrive { row, kind })))
 }
 
 fn report_open<'a>(finished: &'a str) -> Result<Command, Wrong<'a>> {
-    let finished = is_finished(finished)?;
+    let finished = read_keyword(finished)?;
     Ok(Command::Call(Step::ReportOpen { finished }))
 }
 
@@ -84,7 +84,7 @@ fn report<'a>(
         clock: whole(clock, "CLOCK, a whole number below 4294967296")?,
         work: work(row, block)?,
     };
-    let finished = is_finished(finished)?;
+    let finished = read_keyword(finished)?;
     Ok(Command::Call(Step::Given(Call::Report { turn, finished })))
 }
 

@@ -1,11 +1,17 @@
 // Reading a script: its line-up, its opening and its calls, up to the first line that is no command.
+ghost use Rattle.std.specs.Prelude.{[]};
+ghost use Rattle.law.specs.History.{made};
+ghost use Rattle.law.specs.declared.calls.Call.TheVariants.{Begin};
+ghost use Rattle.law.specs.declared.calls.Step.TheVariants.{Given};
+
 use super::parsing::{Command, parse};
-use judge::{Plan, judge};
-use law::Step;
-use lineup::read_rows;
+use judge::Plan;
+use law::{Call, Line, Step, TurnNumbers};
+use lineup_check::plan_lineup;
 use row::Fault;
 use script::{HexFault, Opening, Wrong, decode};
 use std::alloc::{AllocError, AllocFailed, Global};
+use std::fmt;
 use std::str::from_utf8;
 
 // A script as far as it could be read, and why it was read no further, if so.
@@ -14,10 +20,26 @@ pub struct Script<'a> {
     // without rows until the line-up is read
     pub plan: Plan,
     pub opening: Option<Opening>,
-    pub steps: Vec<Step>,
-    // each step as it is written
-    pub texts: Vec<&'a str>,
+    pub lines: Vec<Written<'a>>,
     pub ending: Option<Ending<'a>>,
+}
+
+// A step and its text.
+#[derive(Clone, Copy)]
+pub struct Written<'a> {
+    pub text: &'a str,
+    pub step: Step,
+}
+
+// It makes the call of its step.
+impl Line for Written<'_> {
+    ghost makes = { λ turn line. made turn line.step };
+
+    ghost past = { record { text = record { ref_ptr = (0, 0); now = [] }; step = Given Begin } };
+
+    fn call(self, turn: Option<TurnNumbers>) -> Call {
+        self.step.call(turn)
+    }
 }
 
 // What ends the output: the refusal of the line-up, or a line, by its number, that is no command.
@@ -25,6 +47,15 @@ pub struct Script<'a> {
 pub enum Ending<'a> {
     Refused(Fault),
     Line(usize, Wrong<'a>),
+}
+
+impl fmt::Display for Ending<'_> {
+    fn fmt<W: fmt::Write>(&self, f: &mut fmt::Formatter<W>) -> fmt::Result {
+        match *self {
+            Ending::Refused(fault) => write!(f, "{fault}"),
+            Ending::Line(number, wrong) => write!(f, "line {number}: {wrong}"),
+        }
+    }
 }
 
 // Why a line is not taken in.
@@ -60,34 +91,35 @@ impl<'a> From<Wrong<'a>> for Stop<'a> {
 }
 
 impl<'a> Script<'a> {
-    pub(crate) fn new(heap: Global) -> Script<'a> {
-        Script {
+    // The script that the input spells.
+    pub(crate) fn read(heap: Global, input: &'a [u8]) -> Result<Script<'a>, AllocError> {
+        let mut script = Script {
             plan: Plan::new(),
             opening: None,
-            steps: Vec::new(heap),
-            texts: Vec::new(heap),
+            lines: Vec::new(heap),
             ending: None,
-        }
+        };
+        let (text, cut) = text_of(input);
+        script.take_lines(heap, text, cut)?;
+        Ok(script)
     }
 
     // Takes in the lines of a text. `cut` is the number of the line behind them where that line is no text.
-    pub(crate) fn read(
+    fn take_lines(
         &mut self,
         heap: Global,
         text: &'a str,
         cut: Option<usize>,
     ) -> Result<(), AllocError> {
-        let mut number = 1usize;
-        for line in text.lines() {
+        for (before, line) in text.lines().enumerate() {
             if let Err(stop) = self.take_line(heap, line) {
-                self.ending = Some(ending_at(number, stop)?);
+                self.ending = Some(ending_at(before.saturating_add(1), stop)?);
                 return Ok(());
             }
-            number = number.saturating_add(1);
         }
         self.ending = match cut {
             Some(line) => Some(Ending::Line(line, Wrong::Missing("text in UTF-8"))),
-            None => self.wanting(number),
+            None => self.wanting(text.lines().count().saturating_add(1)),
         };
         Ok(())
     }
@@ -112,17 +144,14 @@ impl<'a> Script<'a> {
         match command {
             Command::Lineup if self.plan.len() == 0 => {
                 let digits = text.strip_prefix("lineup").unwrap_or("");
-                match decode(heap, digits) {
-                    Ok(bytes) => plan_lineup(&mut self.plan, bytes.as_slice())?,
-                    Err(fault) => return Err(hex_stop(digits, fault)),
-                }
+                let bytes = decode(heap, digits).map_err(|fault| hex_stop(digits, fault))?;
+                plan_lineup(&mut self.plan, bytes.as_slice())?;
             }
             Command::Open(opening) if self.plan.len() > 0 && self.opening.is_none() => {
                 self.opening = Some(opening);
             }
             Command::Call(step) if self.opening.is_some() => {
-                self.steps.push(step)?;
-                self.texts.push(text)?;
+                self.lines.push(Written { text, step })?;
             }
             _ => {
                 return Err(Stop::Wrong(Wrong::Word {
@@ -177,31 +206,19 @@ fn ending_at<'a>(number: usize, stop: Stop<'a>) -> Result<Ending<'a>, AllocError
 }
 
 // The input as text; where it is none, the lines before the first that is none, and the number of that line.
-pub(crate) fn text_of(input: &[u8]) -> (&str, Option<usize>) {
+fn text_of(input: &[u8]) -> (&str, Option<usize>) {
     match from_utf8(input) {
         Ok(text) => (text, None),
         Err(e) => {
             let valid = input.get(..e.valid_up_to()).unwrap_or(b"");
             let text = from_utf8(valid).unwrap_or("");
             let cut = text.split('\n').count();
-            match text.rsplit_once('\n') {
-                Some((lines, _)) => (lines, Some(cut)),
-                None => ("", Some(cut)),
-            }
+            let lines = text.rsplit_once('\n').map_or("", |(lines, _)| lines);
+            (lines, Some(cut))
         }
     }
 }
 
 fn without_comment(line: &str) -> &str {
-    match line.split_once('#') {
-        Some((before, _)) => before,
-        None => line,
-    }
-}
-
-// Fills the plan from a line-up's bytes, or says which fault applies.
-fn plan_lineup(plan: &mut Plan, input: &[u8]) -> Result<(), Fault> {
-    let rows = read_rows(input)?;
-    judge(plan, rows.as_slice())?;
-    Ok(())
+    line.split_once('#').map_or(line, |(before, _)| before)
 }

@@ -1,78 +1,62 @@
 // Running a script: the calls over the board and the pool that it names, and a line for each.
-use super::reading::{Ending, Script};
+use super::reading::Script;
 use super::{table, timeline};
 use board::{Board, ChainBoard, WordBoard};
-use judge::Plan;
-use law::{Answer, Outcome, Step};
-use pool::{BitmapPool, FreeListPool, Pool};
-use row::Fault;
+use law::{Answer, Outcome, Reply};
+use pool::{BitmapPool, FreeListPool};
 use script::{BoardName, Opening, PoolName};
-use session::replay_steps;
-use std::alloc::{AllocError, Global};
+use session::replay;
+use std::alloc::Global;
 use std::fmt::Write;
 use std::io;
-use std::str::from_utf8;
 use traces::Trace;
 
 pub(crate) fn run(heap: Global, script: &Script<'_>) -> io::Result<String> {
     let mut out = String::new(heap);
-    let mut log = vec![in heap; Answer::Done(Outcome::Idle); script.steps.len()]?;
+    let mut log = vec![in heap; Ok(Reply::Done(Outcome::Idle)); script.lines.len()]?;
     if let Some(opening) = script.opening {
-        choose_board(
-            &script.plan,
-            opening,
-            script.steps.as_slice(),
-            log.as_mut_slice(),
-        );
+        make_calls(script, opening, log.as_mut_slice());
     }
     let trace = show_calls(heap, &mut out, script, log.as_slice())?;
     match script.ending {
-        Some(ending) => show_ending(&mut out, ending)?,
+        Some(ending) => writeln!(out, "{ending}")?,
         None => {
             writeln!(out, "")?;
-            table::show(heap, &mut out, &script.plan, &trace)?;
+            table::show(&mut out, &script.plan, &trace)?;
             writeln!(out, "")?;
-            timeline::show(heap, &mut out, &script.plan, &trace)?;
+            timeline::show(&mut out, &script.plan, &trace)?;
         }
     }
     Ok(out)
 }
 
-fn choose_board(plan: &Plan, opening: Opening, steps: &[Step], log: &mut [Answer]) {
+// Makes the calls over the board and the pool that the opening names. `replay` takes both as types, so a match picks each.
+fn make_calls(script: &Script<'_>, opening: Opening, log: &mut [Answer]) {
     match opening.board {
-        BoardName::Word => choose_pool(plan, WordBoard::new(), opening, steps, log),
-        BoardName::Chain => choose_pool(plan, ChainBoard::new(), opening, steps, log),
+        BoardName::Word => make_calls_over(WordBoard::new(), script, opening, log),
+        BoardName::Chain => make_calls_over(ChainBoard::new(), script, opening, log),
     }
 }
 
-fn choose_pool<B: Board + Drop>(
-    plan: &Plan,
+fn make_calls_over<B: Board + Drop>(
     board: B,
+    script: &Script<'_>,
     opening: Opening,
-    steps: &[Step],
     log: &mut [Answer],
 ) {
+    let plan = &script.plan;
+    let lines = script.lines.as_slice();
+    let number = opening.number;
     match opening.pool {
         PoolName::Bitmap => {
             let pool = BitmapPool::new(opening.blocks);
-            make_calls(plan, board, pool, opening.number, steps, log);
+            let _ = replay(plan, board, pool, number, lines, log);
         }
         PoolName::FreeList => {
             let pool = FreeListPool::new(opening.blocks);
-            make_calls(plan, board, pool, opening.number, steps, log);
+            let _ = replay(plan, board, pool, number, lines, log);
         }
     }
-}
-
-fn make_calls<B: Board + Drop, P: Pool + Drop>(
-    plan: &Plan,
-    board: B,
-    pool: P,
-    number: u32,
-    steps: &[Step],
-    log: &mut [Answer],
-) {
-    let _ = replay_steps(plan, board, pool, number, steps, log);
 }
 
 // A line for each call, with the clock before it; and the trace of the session.
@@ -83,47 +67,14 @@ fn show_calls(
     log: &[Answer],
 ) -> io::Result<Trace> {
     let mut trace = Trace::new(heap);
-    let calls = script.texts.iter().zip(script.steps.iter());
-    for ((text, step), answer) in calls.zip(log.iter()) {
+    for (line, answer) in script.lines.iter().zip(log.iter()) {
         let clock = trace.clock();
-        write!(out, "{clock} {text} -> ")?;
-        show_answer(out, *answer)?;
-        writeln!(out, "")?;
-        trace.note(*step, *answer)?;
+        let text = line.text;
+        match answer {
+            Ok(reply) => writeln!(out, "{clock} {text} -> {reply}")?,
+            Err(fault) => writeln!(out, "{clock} {text} -> {fault}")?,
+        }
+        trace.note(line.step, *answer)?;
     }
     Ok(trace)
-}
-
-fn show_answer(out: &mut String, answer: Answer) -> Result<(), AllocError> {
-    match answer {
-        Answer::Block(block) => write!(out, "block {block}"),
-        Answer::Turn(turn) => match turn.work {
-            Some(work) => {
-                let row = work.row;
-                let block = work.block;
-                write!(out, "row {row} block {block}")
-            }
-            None => write!(out, "idle"),
-        },
-        Answer::Done(Outcome::Idle) => write!(out, "idle"),
-        Answer::Done(Outcome::GoesOn) => write!(out, "goes on"),
-        Answer::Done(Outcome::Finished) => write!(out, "finished"),
-        Answer::Done(Outcome::Cut) => write!(out, "cut"),
-        Answer::Refused(fault) => show_fault(out, fault),
-    }
-}
-
-fn show_fault(out: &mut String, fault: Fault) -> Result<(), AllocError> {
-    let number = fault.refusal.number();
-    let layer = from_utf8(fault.layer.word()).unwrap_or("");
-    let place = fault.place;
-    write!(out, "refused {number} {layer} {place}")
-}
-
-fn show_ending(out: &mut String, ending: Ending<'_>) -> Result<(), AllocError> {
-    match ending {
-        Ending::Refused(fault) => show_fault(out, fault)?,
-        Ending::Line(number, wrong) => write!(out, "line {number}: {wrong}")?,
-    }
-    writeln!(out, "")
 }

@@ -1,14 +1,12 @@
 // The table of jobs.
 use judge::{Bounds, Plan};
-use law::Outcome;
 use row::Kind;
-use std::alloc::Global;
 use std::fmt::Write;
 use std::io;
 use traces::{JobLine, Trace};
 
 // A line for each job, in the order of their arrival.
-pub(crate) fn show(heap: Global, out: &mut String, plan: &Plan, trace: &Trace) -> io::Result<()> {
+pub(crate) fn show(out: &mut String, plan: &Plan, trace: &Trace) -> io::Result<()> {
     writeln!(
         out,
         "row  kind      arrival      end  ended     response    bound"
@@ -17,8 +15,8 @@ pub(crate) fn show(heap: Global, out: &mut String, plan: &Plan, trace: &Trace) -
     for (place, job) in trace.jobs().iter().enumerate() {
         if let Some(bounds) = plan.bounds(job.row as usize) {
             let lapsed = bounds.late.is_none() && is_disturbed(place, job, trace);
-            show_job(heap, out, job, bound_of(job.kind, bounds), lapsed)?;
-            any_lapsed = any_lapsed || lapsed;
+            show_job(out, job, bound_of(job.kind, bounds), lapsed)?;
+            any_lapsed |= lapsed;
         }
     }
     if any_lapsed {
@@ -30,22 +28,17 @@ pub(crate) fn show(heap: Global, out: &mut String, plan: &Plan, trace: &Trace) -
     Ok(())
 }
 
-fn show_job(
-    heap: Global,
-    out: &mut String,
-    job: &JobLine,
-    bound: u32,
-    lapsed: bool,
-) -> io::Result<()> {
+fn show_job(out: &mut String, job: &JobLine, bound: u32, lapsed: bool) -> io::Result<()> {
+    let heap = *out.allocator();
     let row = job.row;
-    let kind = kind_word(job.kind);
+    let kind = job.kind;
     let arrival = job.arrival;
     write!(out, "{row:>3}  {kind:<8}  {arrival:>7}  ")?;
     match job.end {
         None => write!(out, "{:>7}  {:<8}  {:>8}", "-", "-", "-")?,
         Some(end) => {
             let clock = end.clock;
-            let how = ending_word(end.outcome);
+            let how = end.outcome;
             let response = clock.saturating_sub(arrival);
             write!(out, "{clock:>7}  {how:<8}  {response:>8}")?;
         }
@@ -53,7 +46,7 @@ fn show_job(
     let bound = if lapsed {
         format!(in heap; "({bound})")?
     } else {
-        format!(in heap; "{bound}")?
+        bound.to_string(heap)?
     };
     writeln!(out, "  {bound:>7}")?;
     Ok(())
@@ -61,24 +54,8 @@ fn show_job(
 
 // Whether an abnormal job came behind the job and before its end.
 fn is_disturbed(place: usize, job: &JobLine, trace: &Trace) -> bool {
-    match job.end {
-        Some(end) => end.disturbed,
-        None => trace.has_abnormal_behind(place),
-    }
-}
-
-fn kind_word(kind: Kind) -> &'static str {
-    match kind {
-        Kind::Normal => "normal",
-        Kind::Abnormal => "abnormal",
-    }
-}
-
-fn ending_word(outcome: Outcome) -> &'static str {
-    match outcome {
-        Outcome::Cut => "cut",
-        _ => "finished",
-    }
+    job.end
+        .map_or_else(|| trace.has_abnormal_behind(place), |end| end.disturbed)
 }
 
 // The mixed bound of a track's normal job, the long bound of its abnormal one, the normal bound of a helper's.

@@ -1,7 +1,6 @@
 // The timeline: a line for each row, a column for each tick.
 use judge::Plan;
 use row::{Kind, Row};
-use std::alloc::Global;
 use std::fmt::Write;
 use std::io;
 use traces::{Tick, Trace};
@@ -15,41 +14,33 @@ I arrives, runs and finishes   X arrives, runs and is cut   mode: n normal, A ab
 The last column is the clock at the end, where nothing runs.
 ";
 
-pub(crate) fn show(heap: Global, out: &mut String, plan: &Plan, trace: &Trace) -> io::Result<()> {
+pub(crate) fn show(out: &mut String, plan: &Plan, trace: &Trace) -> io::Result<()> {
     out.push_str(LEGEND)?;
-    let mut columns = Vec::from_slice(heap, trace.ticks())?;
+    let mut columns = Vec::from_slice(*out.allocator(), trace.ticks())?;
     columns.push(trace.last_column())?;
-    let mut start = 0usize;
-    for band in columns.chunks(BAND) {
+    for (before, band) in columns.chunks(BAND).enumerate() {
         writeln!(out, "")?;
-        show_ruler(heap, out, start, band.len())?;
-        for row in 0..plan.len() {
-            if let Some(asked) = plan.row(row) {
-                show_row(heap, out, row, letter(asked), band)?;
-            }
+        show_ruler(out, before.saturating_mul(BAND), band.len())?;
+        let rows = (0..plan.len()).filter_map(|row| plan.row(row));
+        for (row, asked) in rows.enumerate() {
+            show_row(out, row, letter(asked), band)?;
         }
         show_mode(out, band)?;
-        start = start.saturating_add(BAND);
     }
     Ok(())
 }
 
 // The clock at each tenth column, and a ruler below it.
-fn show_ruler(heap: Global, out: &mut String, start: usize, len: usize) -> io::Result<()> {
-    let mut line = String::new(heap);
-    for column in 0..len {
-        if column % 10 == 0 {
-            let clock = start.saturating_add(column);
-            write!(line, "{clock:<10}")?;
-        }
+fn show_ruler(out: &mut String, start: usize, len: usize) -> io::Result<()> {
+    let mut line = String::new(*out.allocator());
+    for column in (0..len).filter(|column| column % 10 == 0) {
+        let clock = start.saturating_add(column);
+        write!(line, "{clock:<10}")?;
     }
     let clocks = line.as_str().trim_end();
     writeln!(out, "clock    {clocks}")?;
-    write!(out, "         ")?;
-    for column in 0..len {
-        out.push(ruler_mark(column))?;
-    }
-    writeln!(out, "")?;
+    let ruler: String = (0..len).map(ruler_mark).collect(*out.allocator())?;
+    writeln!(out, "         {ruler}")?;
     Ok(())
 }
 
@@ -65,30 +56,20 @@ fn letter(asked: Row) -> char {
     if asked.is_track() { 'T' } else { 'H' }
 }
 
-fn show_row(
-    heap: Global,
-    out: &mut String,
-    row: usize,
-    letter: char,
-    band: &[Tick],
-) -> io::Result<()> {
-    let mut line = format!(in heap; "row {row:<2} {letter} ")?;
-    for tick in band {
-        if let Some(mark) = tick.marks.get(row) {
-            line.push(mark.symbol())?;
-        }
-    }
-    let line = line.as_str().trim_end();
-    writeln!(out, "{line}")?;
+fn show_row(out: &mut String, row: usize, letter: char, band: &[Tick]) -> io::Result<()> {
+    let marks: String = band
+        .iter()
+        .filter_map(|tick| tick.marks.get(row).copied())
+        .map(char::from)
+        .collect(*out.allocator())?;
+    let line = format!(in *out.allocator(); "row {row:<2} {letter} {marks}")?;
+    writeln!(out, "{}", line.as_str().trim_end())?;
     Ok(())
 }
 
 fn show_mode(out: &mut String, band: &[Tick]) -> io::Result<()> {
-    write!(out, "mode     ")?;
-    for tick in band {
-        out.push(mode_mark(tick))?;
-    }
-    writeln!(out, "")?;
+    let modes: String = band.iter().map(mode_mark).collect(*out.allocator())?;
+    writeln!(out, "mode     {modes}")?;
     Ok(())
 }
 

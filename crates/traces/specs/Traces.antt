@@ -1,11 +1,12 @@
 -- What the answers of a session make of a trace. Assumes nothing.
-use Rattle.std.specs.Prelude.{◌≡◌, ℕ, ◌+◌, ◌<◌, Bool, true, false, cond, not, ◌&&◌, List, [], ◌∷◌, ◌++◌, is_some, Some, None, vec_items, vec_len, Option, nat_eq, nat_lt, slice_index_or, slice_set}
+use Rattle.std.specs.Prelude.{◌≡◌, ℕ, ◌+◌, ◌<◌, Bool, true, false, cond, not, List, [], ◌∷◌, ◌++◌, is_none, is_some, Some, None, vec_items, vec_len, Option, nat_eq, nat_lt, slice_index_or, slice_set, Ok, Err}
+use Rattle.std.specs.List.{list_all}
 use Rattle.std.specs.Option.{option_map}
 use Rattle.row.specs.declared.rows.Kind.{Kind}
 use Rattle.row.specs.declared.rows.Kind.TheVariants.{Normal, Abnormal}
 use Rattle.law.specs.State.{is_for, mode_with}
-use Rattle.law.specs.declared.calls.Answer.{Answer}
-use Rattle.law.specs.declared.calls.Answer.TheVariants.{Block, Turn, Done, Refused}
+use Rattle.law.specs.Answer.{Answer}
+use Rattle.law.specs.declared.calls.Reply.TheVariants.{Block, Turn, Done}
 use Rattle.law.specs.declared.calls.Call.TheVariants.{Arrive, Begin, Report}
 use Rattle.law.specs.declared.calls.Outcome.{Outcome}
 use Rattle.law.specs.declared.calls.Outcome.TheVariants.{Idle, GoesOn, Finished, Cut}
@@ -60,8 +61,7 @@ left_by jobs None o = jobs
 
 -- whether no job is unended
 abbrev pub quiet : List (Option Unended) → Bool
-quiet [] = true
-quiet (j ∷ js) = not (is_some j) && quiet js
+quiet jobs = list_all is_none jobs
 
 -- a job's line with its end
 abbrev pub ended_line : JobLine → End → JobLine
@@ -113,10 +113,10 @@ pub record Ticked (t : Trace) (o : Outcome) (t' : Trace) : Type 0 where
 
 -- what an answer makes of the trace
 abbrev pub Noted : Step → Answer → Trace → Trace → Type 0
-Noted (Given (Arrive r k)) (Block b) t t' = Admitted t r k t'
-Noted (Given Begin) (Block b) t t' = t' ≡ t
-Noted (Given (Report n f)) (Block b) t t' = t' ≡ t
-Noted (ReportOpen f) (Block b) t t' = t' ≡ t
-Noted s (Turn n) t t' = Begun t n.work t'
-Noted s (Done o) t t' = Ticked t o t'
-Noted s (Refused f) t t' = t' ≡ t
+Noted (Given (Arrive r k)) (Ok (Block b)) t t' = Admitted t r k t'
+Noted (Given Begin) (Ok (Block b)) t t' = t' ≡ t
+Noted (Given (Report n f)) (Ok (Block b)) t t' = t' ≡ t
+Noted (ReportOpen f) (Ok (Block b)) t t' = t' ≡ t
+Noted s (Ok (Turn n)) t t' = Begun t n.work t'
+Noted s (Ok (Done o)) t t' = Ticked t o t'
+Noted s (Err f) t t' = t' ≡ t

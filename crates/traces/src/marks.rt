@@ -25,19 +25,20 @@ impl Mark {
             return Mark::Absent;
         };
         match outcome {
-            None => Mark::Waits { arrives },
-            Some(Outcome::Idle) => Mark::Waits { arrives },
+            None | Some(Outcome::Idle) => Mark::Waits { arrives },
             Some(Outcome::GoesOn) => Mark::Runs { arrives },
             Some(Outcome::Finished) => Mark::Finishes { arrives },
             Some(Outcome::Cut) => Mark::IsCut { arrives },
         }
     }
+}
 
-    // The sign that stands for the mark in a timeline.
-    pub fn symbol(&self) -> char
-        ensures { result ≡ symbol_of self.now }
-    {
-        match *self {
+// The sign that stands for the mark in a timeline.
+impl From<Mark> for char {
+    ghost from_gives = { λ mark sign. sign ≡ symbol_of mark };
+
+    fn from(mark: Mark) -> char {
+        match mark {
             Mark::Absent => ' ',
             Mark::Waits { arrives: true } => '(',
             Mark::Waits { arrives: false } => '.',

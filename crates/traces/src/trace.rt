@@ -29,7 +29,7 @@ pub(crate) struct Unended {
     pub(crate) arrival: usize,
 }
 
-// One tick: the mode in it, whether it was idle, and what each row did.
+// One tick: the mode in it, whether it was idle, and what each row did. An idle tick has a mode too, so `idle` is no option of it.
 #[derive(Clone, Copy)]
 pub struct Tick {
     pub mode: Kind,
@@ -43,8 +43,9 @@ pub struct Trace {
     pub(crate) mode: Kind,
     // what the open turn is for
     pub(crate) work: Option<Work>,
+    // of each row by its number, as the marks of a tick are
     pub(crate) unended: [Option<Unended>; 32],
-    // the place of the last abnormal job, and 0 before the first
+    // The place of the last abnormal job, and 0 before the first: no job's place is below 0, so an option would say no more.
     pub(crate) abnormal: usize,
     pub(crate) jobs: Vec<JobLine>,
     pub(crate) ticks: Vec<Tick>,

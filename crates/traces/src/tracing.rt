@@ -1,14 +1,13 @@
 // Following a session by its answers.
-ghost use Rattle.std.specs.Prelude.{◌≡◌, ℕ, ◌<◌, true, false, [], replicate, if◌then◌else◌, None, OnOk, nat_lt, slice_index_or, slice_set};
+ghost use Rattle.std.specs.Prelude.{◌≡◌, false, [], replicate, None, OnOk, nat_lt, slice_index_or, slice_set};
 ghost use Rattle.row.specs.declared.rows.Kind.TheVariants.{Normal};
 ghost use Rattle.law.specs.declared.calls.Outcome.TheVariants.{Idle};
-ghost use Rattle.traces.specs.declared.marks.Mark.TheVariants.{Absent};
 ghost use Rattle.traces.specs.declared.trace.JobLine.{JobLine};
-ghost use Rattle.traces.specs.Traces.{clock_of, arrives, outcome_of, mark_at, Column, ends, ended_by, left_by, quiet, ended_line, Lines, end_of, Admitted, Ticked, Noted};
+ghost use Rattle.traces.specs.Traces.{clock_of, outcome_of, Column, ended_by, left_by, quiet, ended_line, Admitted, Ticked, Noted};
 
 use super::marks::Mark;
 use super::trace::{End, JobLine, Tick, Trace, Unended};
-use law::{Answer, Call, Outcome, Step, Work};
+use law::{Answer, Call, Outcome, Reply, Step, Work};
 use row::Kind;
 use std::alloc::{AllocError, Global};
 
@@ -64,11 +63,7 @@ impl Trace {
     pub fn last_column(&self) -> Tick
         ensures { Column self.now None Idle false result }
     {
-        Tick {
-            mode: self.mode,
-            idle: false,
-            marks: self.marks(None, Outcome::Idle),
-        }
+        self.column(None, Outcome::Idle, false)
     }
 
     // Takes in the answer to a step.
@@ -76,16 +71,16 @@ impl Trace {
         ensures { OnOk result (Noted step answer self.old self.new) }
     {
         match answer {
-            Answer::Block(_) => match step {
+            Ok(Reply::Block(_)) => match step {
                 Step::Given(Call::Arrive { row, kind }) => self.admit(row, kind),
                 _ => Ok(()),
             },
-            Answer::Turn(turn) => {
+            Ok(Reply::Turn(turn)) => {
                 self.work = turn.work;
                 Ok(())
             }
-            Answer::Done(outcome) => self.tick(outcome),
-            Answer::Refused(_) => Ok(()),
+            Ok(Reply::Done(outcome)) => self.tick(outcome),
+            Err(_) => Ok(()),
         }
     }
 
@@ -94,22 +89,18 @@ impl Trace {
     {
         let place = self.jobs.len();
         let arrival = self.clock();
-        let line = JobLine {
+        self.jobs.push(JobLine {
             row,
             kind,
             arrival,
             end: None,
-        };
-        match self.jobs.push(line) {
-            Ok(()) => {}
-            Err(_) => return Err(AllocError),
-        }
+        })?;
         put(
             &mut self.unended,
             row as usize,
             Some(Unended { place, arrival }),
         );
-        if let Kind::Abnormal = kind {
+        if kind == Kind::Abnormal {
             self.mode = Kind::Abnormal;
             self.abnormal = place;
         }
@@ -121,81 +112,50 @@ impl Trace {
         ensures { OnOk result (Ticked self.old outcome self.new) }
     {
         let work = self.work;
-        let column = Tick {
-            mode: self.mode,
-            idle: work.is_none(),
-            marks: self.marks(work, outcome),
-        };
-        match self.ticks.push(column) {
-            Ok(()) => {}
-            Err(_) => return Err(AllocError),
+        let column = self.column(work, outcome, work.is_none());
+        self.ticks.push(column)?;
+        if let Some(job) = take_ended(&mut self.unended, work, outcome) {
+            let end = End {
+                clock: self.clock(),
+                outcome,
+                disturbed: self.has_abnormal_behind(job.place),
+            };
+            end_line(&mut self.jobs, job.place, end);
         }
-        let clock = self.clock();
-        let ended = ended_by(&self.unended, work, outcome);
-        end_job(&mut self.jobs, ended, self.abnormal, clock, outcome);
-        clear(&mut self.unended, work, outcome);
-        self.mode = mode_after(&self.unended, self.mode);
+        if is_quiet(&self.unended) {
+            self.mode = Kind::Normal;
+        }
         self.work = None;
         Ok(())
     }
 
-    // What each row does in a tick that goes to this work.
-    fn marks(&self, work: Option<Work>, outcome: Outcome) -> [Mark; 32]
-        ensures { (k : ℕ) → k < 32 → slice_index_or result k Absent ≡ mark_at self.now work outcome k }
+    // The column of the next tick, where it goes to this work.
+    fn column(&self, work: Option<Work>, outcome: Outcome, idle: bool) -> Tick
+        ensures { Column self.now work outcome idle result }
     {
         let mut marks = [Mark::Absent; 32];
-        for row in 0..32usize {
-            marks[row] = Mark::new(
-                arrives_at(self.clock(), self.unended[row]),
-                outcome_of(work, outcome, row),
-            );
+        for (row, job) in self.unended.iter().enumerate() {
+            let arrives = job.map(|job| job.arrival == self.clock());
+            marks[row] = Mark::new(arrives, outcome_of(work, outcome, row));
         }
-        marks
+        Tick {
+            mode: self.mode,
+            idle,
+            marks,
+        }
     }
 }
 
-fn arrives_at(clock: usize, job: Option<Unended>) -> Option<bool>
-    ensures { result ≡ arrives clock job }
-{
-    match job {
-        Some(job) => Some(job.arrival == clock),
-        None => None,
-    }
-}
-
+// What became of the job of a row, if the tick went to the row.
 fn outcome_of(work: Option<Work>, outcome: Outcome, row: usize) -> Option<Outcome>
     ensures { result ≡ outcome_of work outcome row }
 {
-    match work {
-        Some(work) => {
-            if work.row as usize == row {
-                Some(outcome)
-            } else {
-                None
-            }
-        }
-        None => None,
-    }
+    work.is_some_and(|work| work.row as usize == row)
+        .then_some(outcome)
 }
 
-fn has_ended(outcome: Outcome) -> bool
-    ensures { result ≡ ends outcome }
-{
-    match outcome {
-        Outcome::Idle => false,
-        Outcome::GoesOn => false,
-        Outcome::Finished => true,
-        Outcome::Cut => true,
-    }
-}
-
-// The job of a row; a number that is no row's has none.
-fn job_of(jobs: &[Option<Unended>], row: usize) -> Option<Unended>
-    ensures { result ≡ slice_index_or jobs.now row None }
-{
-    if row < jobs.len() { jobs[row] } else { None }
-}
-
+// Makes this the unended job of a row; a number that is no row's changes nothing.
+// By place, here and below: of a slice that `get_mut` lent a proof knows only the length.
 fn put(jobs: &mut [Option<Unended>], row: usize, job: Option<Unended>)
     ensures { jobs.new ≡ slice_set jobs.old row job }
 {
@@ -204,29 +164,18 @@ fn put(jobs: &mut [Option<Unended>], row: usize, job: Option<Unended>)
     }
 }
 
-// The unended job that a tick ends.
-fn ended_by(jobs: &[Option<Unended>], work: Option<Work>, outcome: Outcome) -> Option<Unended>
-    ensures { result ≡ ended_by jobs.now work outcome }
+// Takes the job that a tick ends, if it ends one, off the unended ones.
+fn take_ended(jobs: &mut [Option<Unended>], work: Option<Work>, outcome: Outcome) -> Option<Unended>
+    ensures ended { result ≡ ended_by jobs.old work outcome }
+    ensures left { jobs.new ≡ left_by jobs.old work outcome }
 {
-    let Some(work) = work else {
+    let row = work?.row as usize;
+    if !matches!(outcome, Outcome::Finished | Outcome::Cut) {
         return None;
-    };
-    if has_ended(outcome) {
-        return job_of(jobs, work.row as usize);
     }
-    None
-}
-
-// Takes the job that a tick ends off the unended ones.
-fn clear(jobs: &mut [Option<Unended>], work: Option<Work>, outcome: Outcome)
-    ensures { jobs.new ≡ left_by jobs.old work outcome }
-{
-    let Some(work) = work else {
-        return;
-    };
-    if has_ended(outcome) {
-        put(jobs, work.row as usize, None);
-    }
+    let ended = jobs.get(row).copied().flatten();
+    put(jobs, row, None);
+    ended
 }
 
 // Writes the end of the job at a place.
@@ -234,52 +183,13 @@ fn end_line(jobs: &mut Vec<JobLine>, place: usize, end: End)
     ensures { (d : JobLine) → jobs.new.items ≡ slice_set jobs.old.items place (ended_line (slice_index_or jobs.old.items place d) end) }
 {
     if place < jobs.len() {
-        let line = jobs[place];
-        jobs[place] = JobLine {
-            row: line.row,
-            kind: line.kind,
-            arrival: line.arrival,
-            end: Some(end),
-        };
+        jobs[place].end = Some(end);
     }
-}
-
-// Writes the end of the job that a tick ends, if it ends one. Where an abnormal job came behind it, it was disturbed.
-fn end_job(
-    jobs: &mut Vec<JobLine>,
-    ended: Option<Unended>,
-    abnormal: usize,
-    clock: usize,
-    outcome: Outcome,
-)
-    ensures { Lines jobs.old.items ended (end_of abnormal clock outcome) jobs.new.items }
-{
-    let Some(job) = ended else {
-        return;
-    };
-    let end = End {
-        clock,
-        outcome,
-        disturbed: job.place < abnormal,
-    };
-    end_line(jobs, job.place, end);
-}
-
-// The mode, which becomes normal when no job is unended.
-fn mode_after(jobs: &[Option<Unended>], mode: Kind) -> Kind
-    ensures { result ≡ (if quiet jobs.now then Normal else mode) }
-{
-    if is_quiet(jobs) { Kind::Normal } else { mode }
 }
 
 // Whether no job is unended.
 fn is_quiet(jobs: &[Option<Unended>]) -> bool
     ensures { result ≡ quiet jobs.now }
 {
-    for job in jobs {
-        if job.is_some() {
-            return false;
-        }
-    }
-    true
+    jobs.iter().all(|job| job.is_none())
 }

@@ -1,5 +1,6 @@
 use Rattle.std.proofs.Common.{◌%◌, length, vec_items, sym, ap, ◌∙◌, arith}
 use Rattle.std.proofs.lemmas.List.{take_all}
+use Rattle.std.proofs.lemmas.Result.{err_from_is_err_and}
 use Rattle.script.specs.Hex.{digits_of, spelt}
 use Rattle.script.proofs.Halves.{white_step, digit_step, put_step, odd}
 use Rattle.script.proofs.hex.decode.Goals as goal
@@ -9,25 +10,23 @@ loop-at-preserved-then-is_white c =
     (white_step _ _ c.as_bytes-byte-items.ensures.value c.loop-at.at c.loop-at-test.true _ c.if-is_white.ensures c.loop-at.invariant.0, c.loop-at.invariant.1)
 
 pub loop-at-preserved : goal.loop-at-preserved
-loop-at-preserved c = (
-  digit_step _ _ c.as_bytes-byte-items.ensures.value c.loop-at.at c.loop-at-test.true _ _ c.if-is_white.ensures c.in-Some.ensures.1 c.loop-at.invariant.0
-      ∙ sym c.in-Ok.ensures.1,
-  c.in-Ok.ensures.0,
-)
+loop-at-preserved c =
+    let digit = rw c.in_ok-digit.ensures.ok_part at c.hex_digit.ensures in (
+      digit_step _ _ c.as_bytes-byte-items.ensures.value c.loop-at.at c.loop-at-test.true _ _ c.if-is_white.ensures digit.1 c.loop-at.invariant.0
+          ∙ sym (c.in_ok-high.ensures).1,
+      (c.in_ok-high.ensures).0,
+    )
 
-pub returns-in-Err : goal.returns-in-Err
-returns-in-Err c =
-    put_step _ _ c.as_bytes-byte-items.ensures.value c.loop-at.at c.loop-at-test.true (vec_items c.loop-at.bytes) c.loop-at.high _ c.if-is_white.ensures
-    c.loop-at.invariant.0 c.in-Err.ensures
+pub returns-in_err-high : goal.returns-in_err-high
+returns-in_err-high c =
+    let p = err_from_is_err_and c.from_residual-in_err-high.result c.from_residual-in_err-high.ensures.1 in
+    rw (p.1, p.2)
+    (put_step _ _ c.as_bytes-byte-items.ensures.value c.loop-at.at c.loop-at-test.true (vec_items c.loop-at.bytes) c.loop-at.high _ c.if-is_white.ensures
+    c.loop-at.invariant.0 c.in_err-high.ensures)
 
-pub returns-in-None : goal.returns-in-None
-returns-in-None c =
-    ap digits_of (sym (take_all c.loop-at.at c.args.text.now (omega (arith, c.as_bytes-byte-items.ensures.len)))) ∙ c.loop-at.invariant.0
-    ∙ ap (spelt (vec_items c.loop-at.bytes)) c.in-None.is
-
-pub returns-in-Some-high : goal.returns-in-Some-high
-returns-in-Some-high c =
+pub returns-in-Some : goal.returns-in-Some
+returns-in-Some c =
     ap (λ ds. length ds % 2)
     (ap digits_of (sym (take_all c.loop-at.at c.args.text.now (omega (arith, c.as_bytes-byte-items.ensures.len)))) ∙ c.loop-at.invariant.0
-    ∙ ap (spelt (vec_items c.loop-at.bytes)) c.in-Some-high.is)
-    ∙ odd (vec_items c.loop-at.bytes) c.in-Some-high.field-0
+    ∙ ap (spelt (vec_items c.loop-at.bytes)) c.in-Some.is)
+    ∙ odd (vec_items c.loop-at.bytes) c.in-Some.field-0
