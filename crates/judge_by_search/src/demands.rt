@@ -1,5 +1,6 @@
 // How much is asked for by a tick, from arrivals that are counted tick by tick.
-use super::entries::Entry;
+use super::times::Times;
+use row::RowNumbers;
 use std::alloc::{AllocError, Global};
 
 // No time is looked at past this tick. It is more than twice the longest deadline of the generated rows that are busy.
@@ -8,9 +9,9 @@ const HORIZON: usize = 260;
 // A row above, with the number of its arrivals before each tick, the first at 0 and one each period.
 #[derive(Drop)]
 pub struct Above {
-    track: bool,
     short: u64,
-    extra: u64,
+    // what an abnormal job asks beside; only a track has one
+    extra: Option<u64>,
     arrived: Vec<u64>,
 }
 
@@ -23,7 +24,9 @@ pub enum Demand {
 }
 
 impl Above {
-    pub(crate) fn new(heap: Global, entry: &Entry) -> Result<Above, AllocError> {
+    pub(crate) fn new(heap: Global, numbers: &RowNumbers) -> Result<Above, AllocError> {
+        let times = Times::from(*numbers);
+        // Counted tick by tick, so that nothing is divided as the judge divides.
         let mut arrived = Vec::new(heap);
         let mut count: u64 = 0;
         let mut wait = 0u32;
@@ -31,14 +34,15 @@ impl Above {
             arrived.push(count)?;
             if wait == 0 {
                 count = count.saturating_add(1);
-                wait = entry.period;
+                wait = times.period;
             }
             wait = wait.saturating_sub(1);
         }
         Ok(Above {
-            track: entry.track,
-            short: entry.short as u64,
-            extra: entry.long.saturating_sub(entry.short) as u64,
+            short: times.short as u64,
+            extra: times
+                .long
+                .map(|long| long.saturating_sub(times.short) as u64),
             arrived,
         })
     }
@@ -57,39 +61,34 @@ impl Above {
         match demand {
             Demand::Normal { .. } => self.before(t).saturating_mul(self.short),
             Demand::Start => self.until(t).saturating_mul(self.short),
-            Demand::Late { instant, .. } => {
-                if self.track {
+            Demand::Late { instant, .. } => match self.extra {
+                Some(extra) => {
                     let late = self.before(t.saturating_sub(instant));
                     let short = self.before(t).saturating_mul(self.short);
-                    short.saturating_add(late.saturating_mul(self.extra))
-                } else {
-                    self.until(instant).saturating_mul(self.short)
+                    short.saturating_add(late.saturating_mul(extra))
                 }
-            }
+                None => self.until(instant).saturating_mul(self.short),
+            },
         }
     }
 }
 
 impl Demand {
     fn at(self, above: &[Above], t: usize) -> u64 {
-        let mut sum = match self {
+        let own = match self {
             Demand::Normal { budget } => budget,
             Demand::Late { budget, .. } => budget,
             Demand::Start => 0,
         };
-        for row in above {
-            sum = sum.saturating_add(row.share(self, t));
-        }
-        sum
+        above
+            .iter()
+            .fold(own, |sum, row| sum.saturating_add(row.share(self, t)))
     }
 
     // The least t from `from` on by which no more is asked for than t ticks.
     pub(crate) fn least(self, above: &[Above], from: usize) -> Option<u64> {
-        for t in from..HORIZON {
-            if self.at(above, t) <= t as u64 {
-                return Some(t as u64);
-            }
-        }
-        None
+        (from..HORIZON)
+            .find(|t| self.at(above, *t) <= *t as u64)
+            .map(|t| t as u64)
     }
 }

@@ -1,5 +1,5 @@
 // Generated lists of rows: tight and loose, short and long, within the limits and not.
-use super::entries::Entry;
+use super::times::Times;
 use generator::Generator;
 use row::RowNumbers;
 use std::alloc::Global;
@@ -53,7 +53,8 @@ const EDGE: Style = Style {
     part: 131_072,
 };
 
-fn make_entry(draws: &mut Generator, style: Style, place: u32) -> Entry {
+// The times of a row at a place.
+fn make_times(draws: &mut Generator, style: Style, place: u32) -> Times {
     let shortest = style
         .shortest
         .saturating_add(style.growth.saturating_mul(place));
@@ -68,29 +69,29 @@ fn make_entry(draws: &mut Generator, style: Style, place: u32) -> Entry {
         period
     };
     let track = draws.below(5) < 3 && (style.growth == 0 || place > 0);
-    Entry {
-        track,
+    Times {
         period,
         deadline,
         short,
-        long: if track { long } else { short },
+        long: track.then_some(long),
     }
 }
 
-// The entry with one limit broken, by one or by as much as there is.
-fn broken(draws: &mut Generator, entry: Entry) -> Entry {
+// The times with one limit broken, by one or by as much as there is.
+fn broken(draws: &mut Generator, times: Times) -> Times {
     let past = if draws.one_in(4) { u32::MAX } else { 1 };
-    let mut wrong = entry;
+    let mut wrong = times;
+    let mut long = times.longest();
     match draws.below(5) {
         0 => wrong.period = 262_143u32.saturating_add(past),
         1 => wrong.short = 0,
-        2 => wrong.short = entry.long.saturating_add(past),
-        3 => wrong.deadline = entry.period.saturating_add(past),
-        _ => wrong.long = entry.deadline.saturating_add(past),
+        2 => wrong.short = long.saturating_add(past),
+        3 => wrong.deadline = times.period.saturating_add(past),
+        _ => long = times.deadline.saturating_add(past),
     }
-    if !entry.track {
-        wrong.short = wrong.short.max(wrong.long);
-        wrong.long = wrong.short;
+    match times.long {
+        Some(_) => wrong.long = Some(long),
+        None => wrong.short = wrong.short.max(long),
     }
     wrong
 }
@@ -113,19 +114,17 @@ fn make_shape(draws: &mut Generator) -> (u32, Style) {
 pub(crate) fn make_list(heap: Global, draws: &mut Generator) -> io::Result<Vec<RowNumbers>> {
     let (count, style) = make_shape(draws);
     let bad = if draws.one_in(10) {
-        draws.below(count)
+        Some(draws.below(count))
     } else {
-        count
+        None
     };
     let mut list = Vec::new(heap);
     for place in 0..count {
-        let entry = make_entry(draws, style, place);
-        let entry = if place == bad {
-            broken(draws, entry)
-        } else {
-            entry
-        };
-        list.push(entry.numbers())?;
+        let mut times = make_times(draws, style, place);
+        if bad == Some(place) {
+            times = broken(draws, times);
+        }
+        list.push(RowNumbers::from(times))?;
     }
     Ok(list)
 }

@@ -1,11 +1,11 @@
 // The judge's answer by plain search: every t and every instant is tried in turn.
 use super::demands::{Above, Demand};
-use super::entries::Entry;
-use row::RowNumbers;
+use super::times::Times;
+use row::{Fault, Layer, Refusal, RowNumbers};
 use std::alloc::{AllocError, Global};
 
 // A greatest value and the first instant that attains it.
-#[derive(Clone, Copy)]
+#[derive(Clone, Copy, Default)]
 pub struct Greatest {
     pub value: u64,
     pub instant: usize,
@@ -23,26 +23,17 @@ pub struct Found {
     pub late: Option<Late>,
 }
 
-#[derive(Drop)]
-pub enum Verdict {
-    Accepted(Vec<Found>),
-    Refused { number: u8, place: u64 },
-}
+// The bounds of every row, or why the list is refused.
+pub type Verdict = Result<Vec<Found>, Fault>;
 
-// The greatest late finish over the instants below `end`, counted from each instant on or from 0 on.
-fn latest_finish(above: &[Above], budget: u32, end: u64, from_instant: bool) -> Option<Greatest> {
-    let mut most = Greatest {
-        value: 0,
-        instant: 0,
-    };
+// The greatest value over the instants below `end`, if there is one at each.
+fn most_of<F: Fn(usize) -> Option<u64>>(end: u64, value: F) -> Option<Greatest>
+    requires { F.IsAlwaysCallable value }
+{
+    // A `for` with `?`: a `try_fold` would hold the same test in a closure.
+    let mut most = Greatest::default();
     for instant in 0..end as usize {
-        let demand = Demand::Late {
-            budget: budget as u64,
-            instant,
-        };
-        let finish = demand.least(above, 1)?;
-        let passed = if from_instant { instant as u64 } else { 0 };
-        let value = finish.saturating_sub(passed);
+        let value = value(instant)?;
         if value > most.value {
             most = Greatest { value, instant };
         }
@@ -50,28 +41,38 @@ fn latest_finish(above: &[Above], budget: u32, end: u64, from_instant: bool) -> 
     Some(most)
 }
 
-// A bound that exists and is at most the deadline; otherwise the refusal.
-fn kept(bound: Option<Greatest>, deadline: u32, refusal: u8) -> Result<Greatest, u8> {
-    match bound {
-        Some(found) if found.value <= deadline as u64 => Ok(found),
-        _ => Err(refusal),
-    }
+fn late_finish(above: &[Above], budget: u32, instant: usize) -> Option<u64> {
+    let demand = Demand::Late {
+        budget: budget as u64,
+        instant,
+    };
+    demand.least(above, 1)
 }
 
-fn late_bounds(above: &[Above], entry: &Entry, normal: u64) -> Result<Late, u8> {
-    let mixed = kept(
-        latest_finish(above, entry.short, normal, false),
-        entry.deadline,
-        11,
-    )?;
-    let Some(start) = Demand::Start.least(above, 0) else {
-        return Err(12);
-    };
-    let long = kept(
-        latest_finish(above, entry.long, start.max(1), true),
-        entry.deadline,
-        12,
-    )?;
+// A late finish counts from 0 on in the mixed bound, and from its instant on in the long one.
+fn mixed_bound(above: &[Above], short: u32, normal: u64) -> Option<Greatest> {
+    most_of(normal, |instant| late_finish(above, short, instant))
+}
+
+fn long_bound(above: &[Above], long: u32) -> Option<Greatest> {
+    let start = Demand::Start.least(above, 0)?;
+    most_of(start.max(1), |instant| {
+        late_finish(above, long, instant).map(|finish| finish.saturating_sub(instant as u64))
+    })
+}
+
+// A bound that exists and is at most the deadline; otherwise the refusal.
+fn kept(bound: Option<Greatest>, deadline: u32, refusal: Refusal) -> Result<Greatest, Refusal> {
+    bound
+        .filter(|found| found.value <= deadline as u64)
+        .ok_or(refusal)
+}
+
+fn late_bounds(above: &[Above], times: &Times, long: u32, normal: u64) -> Result<Late, Refusal> {
+    let mixed = mixed_bound(above, times.short, normal);
+    let mixed = kept(mixed, times.deadline, Refusal::MixedBound)?;
+    let long = long_bound(above, long);
+    let long = kept(long, times.deadline, Refusal::LongBound)?;
     Ok(Late {
         mixed: at_least(mixed, normal),
         long,
@@ -90,61 +91,57 @@ fn at_least(mixed: Greatest, normal: u64) -> Greatest {
     }
 }
 
-// The bounds of one row, or the number of the refusal.
-fn bounds(above: &[Above], entry: &Entry) -> Result<Found, u8> {
+// The bounds of one row, or the refusal.
+fn bounds(above: &[Above], numbers: &RowNumbers) -> Result<Found, Refusal> {
+    let times = Times::from(*numbers);
     let demand = Demand::Normal {
-        budget: entry.short as u64,
+        budget: times.short as u64,
     };
-    let Some(normal) = demand.least(above, 1) else {
-        return Err(10);
-    };
-    if normal > entry.deadline as u64 {
-        return Err(10);
-    }
-    let late = if entry.track {
-        Some(late_bounds(above, entry, normal)?)
-    } else {
-        None
+    let normal = demand
+        .least(above, 1)
+        .filter(|normal| *normal <= times.deadline as u64)
+        .ok_or(Refusal::NormalBound)?;
+    let late = match times.long {
+        Some(long) => Some(late_bounds(above, &times, long, normal)?),
+        None => None,
     };
     Ok(Found { normal, late })
 }
 
-// The refusal of the list as a whole: its number and its place.
-fn refused_whole(given: &[RowNumbers]) -> Option<Verdict> {
-    let (number, place) = match given.len() {
-        0 => (7, 0),
-        1..=32 => (5, 0),
-        count => (6, count as u64),
-    };
-    for numbers in given {
-        if number == 5 && !Entry::of(numbers).keeps_limits() {
-            return Some(Verdict::Refused { number, place });
-        }
+fn fault(refusal: Refusal, place: u64) -> Fault {
+    Fault {
+        refusal,
+        layer: Layer::Judge,
+        place,
     }
-    if number == 5 {
-        None
-    } else {
-        Some(Verdict::Refused { number, place })
+}
+
+// Why the list as a whole is refused.
+fn refused_whole(given: &[RowNumbers]) -> Option<Fault> {
+    match given.len() {
+        0 => Some(fault(Refusal::WrongCount, 0)),
+        1..=32 => {
+            let mut times = given.iter().copied().map(Times::from);
+            let outside = times.any(|times| !times.keep_limits());
+            outside.then_some(fault(Refusal::OutsideLimits, 0))
+        }
+        count => Some(fault(Refusal::TooManyRows, count as u64)),
     }
 }
 
 // What the judge has to answer.
 pub(crate) fn judge_by_search(heap: Global, given: &[RowNumbers]) -> Result<Verdict, AllocError> {
     if let Some(refused) = refused_whole(given) {
-        return Ok(refused);
+        return Ok(Err(refused));
     }
     let mut above = Vec::new(heap);
     let mut all = Vec::new(heap);
     for numbers in given {
-        let entry = Entry::of(numbers);
-        match bounds(above.as_slice(), &entry) {
+        match bounds(above.as_slice(), numbers) {
             Ok(found) => all.push(found)?,
-            Err(number) => {
-                let place = above.len() as u64;
-                return Ok(Verdict::Refused { number, place });
-            }
+            Err(refusal) => return Ok(Err(fault(refusal, above.len() as u64))),
         }
-        above.push(Above::new(heap, &entry)?)?;
+        above.push(Above::new(heap, numbers)?)?;
     }
-    Ok(Verdict::Accepted(all))
+    Ok(Ok(all))
 }

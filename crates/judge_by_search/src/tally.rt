@@ -1,43 +1,24 @@
 // What was seen, and how it is printed.
 use super::search::{Found, Verdict};
 use row::RowNumbers;
-use std::io;
+use std::{fmt, io};
+use tallies::{Agreement, Refusals, count};
 
-#[derive(Drop)]
+#[derive(Default, Drop)]
 pub struct Tally {
-    pub agreed: u32,
-    pub disagreed: u32,
+    agreement: Agreement,
     accepted: u32,
     rows: u32,
     // the most rows of an accepted list
-    most_rows: u32,
+    most_rows: usize,
     // rows whose mixed bound is above the normal one, and whose mixed or long bound comes from an instant above 0
     mixed_above: u32,
     mixed_later: u32,
     long_later: u32,
-    // by the number of the refusal
-    refused: [u32; 13],
-}
-
-fn count(number: &mut u32) {
-    *number = number.saturating_add(1);
+    refusals: Refusals,
 }
 
 impl Tally {
-    pub(crate) fn new() -> Tally {
-        Tally {
-            agreed: 0,
-            disagreed: 0,
-            accepted: 0,
-            rows: 0,
-            most_rows: 0,
-            mixed_above: 0,
-            mixed_later: 0,
-            long_later: 0,
-            refused: [0; 13],
-        }
-    }
-
     fn note_row(&mut self, found: &Found) {
         count(&mut self.rows);
         let Some(late) = found.late else {
@@ -55,48 +36,40 @@ impl Tally {
     }
 
     pub(crate) fn note(&mut self, verdict: &Verdict, agreed: bool) {
-        if agreed {
-            count(&mut self.agreed);
-        } else {
-            count(&mut self.disagreed);
-        }
+        self.agreement.note(agreed);
         match verdict {
-            Verdict::Accepted(all) => {
+            Ok(all) => {
                 count(&mut self.accepted);
-                let mut rows = 0;
                 for found in all.iter() {
                     self.note_row(found);
-                    count(&mut rows);
                 }
-                self.most_rows = self.most_rows.max(rows);
+                self.most_rows = self.most_rows.max(all.len());
             }
-            Verdict::Refused { number, .. } => {
-                if let Some(times) = self.refused.get_mut(*number as usize) {
-                    count(times);
-                }
-            }
+            Err(fault) => self.refusals.note(fault.refusal.number()),
         }
-    }
-
-    pub(crate) fn print(&self, rt: &HostRuntime) -> io::Result<()> {
-        println!(rt; "agreed {}", self.agreed)?;
-        println!(rt; "disagreed {}", self.disagreed)?;
-        println!(rt;
-            "accepted {} with {} rows, at most {}",
-            self.accepted, self.rows, self.most_rows
-        )?;
-        println!(rt; "mixed bound above the normal bound {}", self.mixed_above)?;
-        println!(rt; "mixed bound from an instant above 0 {}", self.mixed_later)?;
-        println!(rt; "long bound from an instant above 0 {}", self.long_later)?;
-        for (number, times) in self.refused.iter().enumerate() {
-            if *times > 0 {
-                println!(rt; "refused by {number}: {times}")?;
-            }
-        }
-        Ok(())
     }
 }
 
+impl fmt::Display for Tally {
+    fn fmt<W: fmt::Write>(&self, f: &mut fmt::Formatter<W>) -> fmt::Result {
+        write!(f, "{}", self.agreement)?;
+        writeln!(
+            f,
+            "accepted {} with {} rows, at most {}",
+            self.accepted, self.rows, self.most_rows
+        )?;
+        writeln!(f, "mixed bound above the normal bound {}", self.mixed_above)?;
+        writeln!(
+            f,
+            "mixed bound from an instant above 0 {}",
+            self.mixed_later
+        )?;
+        writeln!(f, "long bound from an instant above 0 {}", self.long_later)?;
+        write!(f, "{}", self.refusals)
+    }
+}
+
+// Of another crate's type, in this program's words: so no Display.
 fn print_row(rt: &HostRuntime, numbers: &RowNumbers) -> io::Result<()> {
     match *numbers {
         RowNumbers::Track {
@@ -113,13 +86,16 @@ fn print_row(rt: &HostRuntime, numbers: &RowNumbers) -> io::Result<()> {
     }
 }
 
-fn print_found(rt: &HostRuntime, found: &Found) -> io::Result<()> {
-    match found.late {
-        None => println!(rt; "  bound {}", found.normal),
-        Some(late) => println!(rt;
-            "  bounds {} {} {}",
-            found.normal, late.mixed.value, late.long.value
-        ),
+impl fmt::Display for Found {
+    fn fmt<W: fmt::Write>(&self, f: &mut fmt::Formatter<W>) -> fmt::Result {
+        match self.late {
+            None => write!(f, "bound {}", self.normal),
+            Some(late) => write!(
+                f,
+                "bounds {} {} {}",
+                self.normal, late.mixed.value, late.long.value
+            ),
+        }
     }
 }
 
@@ -134,12 +110,14 @@ pub(crate) fn print_disagreement(
         print_row(rt, numbers)?;
     }
     match verdict {
-        Verdict::Refused { number, place } => {
+        Err(fault) => {
+            let number = fault.refusal.number();
+            let place = fault.place;
             println!(rt; "  the search refuses by {number} at {place}")
         }
-        Verdict::Accepted(all) => {
+        Ok(all) => {
             for found in all.iter() {
-                print_found(rt, found)?;
+                println!(rt; "  {found}")?;
             }
             Ok(())
         }

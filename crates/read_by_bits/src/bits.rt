@@ -1,4 +1,5 @@
 // Bytes as a list of bits, the most significant of each byte first, and back.
+use row::Refusal;
 use std::alloc::{AllocError, Global};
 
 const MASKS: [u8; 8] = [128, 64, 32, 16, 8, 4, 2, 1];
@@ -19,13 +20,11 @@ impl Bits {
     }
 
     pub(crate) fn of(heap: Global, bytes: &[u8]) -> Result<Bits, AllocError> {
-        let mut bits = Bits::new(heap);
-        for byte in bytes {
-            for mask in MASKS.iter() {
-                bits.bits.push(*byte & *mask != 0)?;
-            }
-        }
-        Ok(bits)
+        let bits = bytes
+            .iter()
+            .flat_map(|byte| MASKS.map(|mask| *byte & mask != 0))
+            .collect(heap)?;
+        Ok(Bits { bits, at: 0 })
     }
 
     // The byte that the next bit stands in.
@@ -37,36 +36,34 @@ impl Bits {
         self.at >= self.bits.len()
     }
 
-    // The number that the next bits spell, or none where they are too few.
-    pub(crate) fn field(&mut self, width: u32) -> Option<u32> {
-        let mut value: u32 = 0;
-        for _ in 0..width {
-            let one = *self.bits.get(self.at)?;
-            value = value.wrapping_mul(2).wrapping_add(if one { 1 } else { 0 });
-            self.at = self.at.saturating_add(1);
-        }
-        Some(value)
+    // The number that the next bits spell; the input ends where they are too few.
+    pub(crate) fn field(&mut self, width: u32) -> Result<u32, Refusal> {
+        let past = self.at.saturating_add(width as usize);
+        let part = self.bits.get(self.at..past).ok_or(Refusal::InputEnds)?;
+        let value = part.iter().fold(0u32, |value, one| {
+            value.wrapping_mul(2).wrapping_add(u32::from(*one))
+        });
+        self.at = past;
+        Ok(value)
     }
 
     // Puts the last `width` bits of a number behind the others.
     pub(crate) fn put(&mut self, value: u32, width: u32) -> Result<(), AllocError> {
-        for behind in (0..width).rev() {
-            self.bits.push(value.rotate_right(behind) % 2 == 1)?;
-        }
-        Ok(())
+        let ones = (0..width)
+            .rev()
+            .map(|behind| value.rotate_right(behind) % 2 == 1);
+        self.bits.extend(ones)
     }
 
     pub(crate) fn bytes(&self, heap: Global) -> Result<Vec<u8>, AllocError> {
-        let mut bytes = Vec::new(heap);
-        for eight in self.bits.as_slice().chunks(8) {
-            let mut byte = 0;
-            for (bit, mask) in eight.iter().zip(MASKS.iter()) {
-                if *bit {
-                    byte |= *mask;
-                }
-            }
-            bytes.push(byte)?;
-        }
-        Ok(bytes)
+        self.bits.as_slice().chunks(8).map(byte_of).collect(heap)
     }
+}
+
+// The byte that up to eight bits spell; the others are 0.
+fn byte_of(bits: &[bool]) -> u8 {
+    bits.iter().zip(MASKS.iter()).fold(
+        0,
+        |byte, (bit, mask)| if *bit { byte | *mask } else { byte },
+    )
 }

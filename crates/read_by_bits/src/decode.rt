@@ -1,136 +1,153 @@
 // Line-ups from their bits: every field is folded bit by bit, and the records are kept.
 use super::bits::Bits;
+use lineup::{ReadFault, Record};
+use row::{Refusal, RowNumbers};
 use std::alloc::Global;
 use std::io;
 
-// A record as it was decoded. A label is told by its place in the input.
-#[derive(Clone, Copy)]
-pub enum Item {
-    Row(Times),
-    Label { offset: usize, length: u32 },
-    End,
+// The records up to the end or up to a refusal.
+#[derive(Drop)]
+pub struct Decoded<'a> {
+    pub items: Vec<Record<'a>>,
+    pub refused: Option<ReadFault>,
+}
+
+fn is_row(item: &Record<'_>) -> bool {
+    matches!(item, Record::Row(_))
+}
+
+fn rows_among(items: &[Record<'_>]) -> usize {
+    items.iter().filter(|item| is_row(item)).count()
 }
 
 // A helper's long budget is its only one.
-#[derive(Clone, Copy, PartialEq, Eq)]
-pub struct Times {
-    pub track: bool,
-    pub period: u32,
-    pub deadline: u32,
-    pub short: u32,
-    pub long: u32,
+fn in_limits(numbers: &RowNumbers) -> bool {
+    let (period, deadline, short, long) = match *numbers {
+        RowNumbers::Track {
+            period,
+            deadline,
+            short,
+            long,
+        } => (period, deadline, short, long),
+        RowNumbers::Helper {
+            period,
+            deadline,
+            short,
+        } => (period, deadline, short, short),
+    };
+    [1, short, long, deadline, period].is_sorted()
 }
 
-// The records up to the end or up to a refusal, which has a number and the offset of its record.
+// A line-up that is decoded: its bytes, the bits that are left of them, and the records so far.
 #[derive(Drop)]
-pub struct Decoded {
-    pub items: Vec<Item>,
-    pub refused: Option<(u8, usize)>,
+struct Decoder<'a> {
+    input: &'a [u8],
+    bits: Bits,
+    items: Vec<Record<'a>>,
 }
 
-fn rows_among(items: &[Item]) -> u32 {
-    let mut rows: u32 = 0;
-    for item in items {
-        if matches!(item, Item::Row(_)) {
-            rows = rows.saturating_add(1);
+impl<'a> Decoder<'a> {
+    fn time(&mut self) -> Result<u32, Refusal> {
+        self.bits.field(18)
+    }
+
+    fn track_numbers(&mut self) -> Result<RowNumbers, Refusal> {
+        Ok(RowNumbers::Track {
+            period: self.time()?,
+            deadline: self.time()?,
+            short: self.time()?,
+            long: self.time()?,
+        })
+    }
+
+    fn helper_numbers(&mut self) -> Result<RowNumbers, Refusal> {
+        Ok(RowNumbers::Helper {
+            period: self.time()?,
+            deadline: self.time()?,
+            short: self.time()?,
+        })
+    }
+
+    // The rest of a row: so many bits of filling.
+    fn row_item(&mut self, numbers: RowNumbers, filling: u32) -> Result<Record<'a>, Refusal> {
+        if self.bits.field(filling)? > 0 {
+            return Err(Refusal::FillingNotZero);
+        }
+        if !in_limits(&numbers) {
+            return Err(Refusal::OutsideLimits);
+        }
+        if rows_among(self.items.as_slice()) == 32 {
+            return Err(Refusal::TooManyRows);
+        }
+        Ok(Record::Row(numbers))
+    }
+
+    fn label_item(&mut self) -> Result<Record<'a>, Refusal> {
+        let length = self.bits.field(5)?;
+        let offset = self.bits.offset();
+        // Every byte is read, also behind one that is not printable.
+        let mut printable = true;
+        for _ in 0..length {
+            let byte = self.bits.field(8)?;
+            printable = printable && byte > 31 && byte < 127;
+        }
+        if length > 0 && printable && self.items.last().is_some_and(is_row) {
+            let bytes = self.input.get(offset..self.bits.offset()).unwrap_or(&[]);
+            Ok(Record::Label { offset, bytes })
+        } else {
+            Err(Refusal::BadLabel)
         }
     }
-    rows
+
+    fn end_item(&mut self) -> Result<Record<'a>, Refusal> {
+        let count = self.bits.field(5)? as usize;
+        if count.saturating_add(1) != rows_among(self.items.as_slice()) {
+            return Err(Refusal::WrongCount);
+        }
+        if !self.bits.at_end() {
+            return Err(Refusal::AfterEnd);
+        }
+        Ok(Record::End)
+    }
+
+    fn next_item(&mut self) -> Result<Record<'a>, Refusal> {
+        match self.bits.field(3)? {
+            0 => {
+                let numbers = self.helper_numbers()?;
+                self.row_item(numbers, 7)
+            }
+            1 => {
+                let numbers = self.track_numbers()?;
+                self.row_item(numbers, 5)
+            }
+            2 => self.label_item(),
+            3 => self.end_item(),
+            _ => Err(Refusal::UnknownKind),
+        }
+    }
 }
 
-fn in_limits(times: &Times) -> bool {
-    let falls = times.period < times.deadline
-        || times.deadline < times.long
-        || times.long < times.short;
-    !falls && times.short > 0
-}
-
-fn row_times(bits: &mut Bits, track: bool) -> Result<Times, u8> {
-    let period = bits.field(18).ok_or(2)?;
-    let deadline = bits.field(18).ok_or(2)?;
-    let short = bits.field(18).ok_or(2)?;
-    let long = if track {
-        bits.field(18).ok_or(2)?
-    } else {
-        short
+pub(crate) fn decode(heap: Global, input: &[u8]) -> io::Result<Decoded<'_>> {
+    let mut decoder = Decoder {
+        input,
+        bits: Bits::of(heap, input)?,
+        items: Vec::new(heap),
     };
-    Ok(Times {
-        track,
-        period,
-        deadline,
-        short,
-        long,
-    })
-}
-
-fn row_item(bits: &mut Bits, track: bool, items: &[Item]) -> Result<Item, u8> {
-    let times = row_times(bits, track)?;
-    let filling = bits.field(if track { 5 } else { 7 }).ok_or(2)?;
-    if filling > 0 {
-        return Err(3);
-    }
-    if !in_limits(&times) {
-        return Err(5);
-    }
-    if rows_among(items) == 32 {
-        return Err(6);
-    }
-    Ok(Item::Row(times))
-}
-
-fn label_item(bits: &mut Bits, items: &[Item]) -> Result<Item, u8> {
-    let length = bits.field(5).ok_or(2)?;
-    let offset = bits.offset();
-    let mut printable = true;
-    for _ in 0..length {
-        let byte = bits.field(8).ok_or(2)?;
-        printable = printable && byte > 31 && byte < 127;
-    }
-    if length > 0 && printable && matches!(items.last(), Some(Item::Row(_))) {
-        Ok(Item::Label { offset, length })
-    } else {
-        Err(4)
-    }
-}
-
-fn end_item(bits: &mut Bits, items: &[Item]) -> Result<Item, u8> {
-    let count = bits.field(5).ok_or(2)?;
-    if count.saturating_add(1) != rows_among(items) {
-        return Err(7);
-    }
-    if !bits.at_end() {
-        return Err(8);
-    }
-    Ok(Item::End)
-}
-
-fn next_item(bits: &mut Bits, items: &[Item]) -> Result<Item, u8> {
-    match bits.field(3).ok_or(2)? {
-        0 => row_item(bits, false, items),
-        1 => row_item(bits, true, items),
-        2 => label_item(bits, items),
-        3 => end_item(bits, items),
-        _ => Err(1),
-    }
-}
-
-pub(crate) fn decode(heap: Global, bytes: &[u8]) -> io::Result<Decoded> {
-    let mut bits = Bits::of(heap, bytes)?;
-    let mut items = Vec::new(heap);
+    let mut refused = None;
     // every record takes a byte at least, so the loop never runs out
-    for _ in 0..=bytes.len() {
-        let offset = bits.offset();
-        match next_item(&mut bits, items.as_slice()) {
-            Ok(item) => items.push(item)?,
-            Err(number) => {
-                let refused = Some((number, offset));
-                return Ok(Decoded { items, refused });
+    for _ in 0..=input.len() {
+        let offset = decoder.bits.offset();
+        match decoder.next_item() {
+            Ok(item) => decoder.items.push(item)?,
+            Err(refusal) => {
+                refused = Some(ReadFault { refusal, offset });
+                break;
             }
         }
-        if matches!(items.as_slice().last(), Some(Item::End)) {
+        if matches!(decoder.items.last(), Some(Record::End)) {
             break;
         }
     }
-    let refused = None;
+    let items = decoder.items;
     Ok(Decoded { items, refused })
 }

@@ -1,42 +1,30 @@
 // Generated line-ups: written by the writer, which writes good ones only, or packed bit by bit with mistakes.
 use super::bits::Bits;
-use super::decode::Times;
 use generator::Generator;
 use lineup::Writer;
 use row::{Fault, Row, RowNumbers};
 use std::alloc::Global;
 use std::io;
 
-// Times that keep the limits, up to the longest that there are.
-fn make_times(draws: &mut Generator) -> Times {
+// Numbers that keep the limits, up to the longest that there are.
+fn make_numbers(draws: &mut Generator) -> RowNumbers {
     let most = if draws.one_in(3) { 262_143 } else { 60 };
     let period = 1 + draws.below(most);
     let deadline = 1 + draws.below(period);
     let long = 1 + draws.below(deadline);
     let short = 1 + draws.below(long);
-    let track = draws.one_in(2);
-    Times {
-        track,
-        period,
-        deadline,
-        short,
-        long: if track { long } else { short },
-    }
-}
-
-fn row_numbers(times: &Times) -> RowNumbers {
-    if times.track {
+    if draws.one_in(2) {
         RowNumbers::Track {
-            period: times.period,
-            deadline: times.deadline,
-            short: times.short,
-            long: times.long,
+            period,
+            deadline,
+            short,
+            long,
         }
     } else {
         RowNumbers::Helper {
-            period: times.period,
-            deadline: times.deadline,
-            short: times.short,
+            period,
+            deadline,
+            short,
         }
     }
 }
@@ -53,7 +41,7 @@ fn make_count(draws: &mut Generator) -> u32 {
 const TEXT: [u8; 31] = *b" ~Host microphone 2, left {~} A";
 
 fn put_row(writer: &mut Writer<'_>, draws: &mut Generator) -> Result<(), Fault> {
-    let row = Row::new(row_numbers(&make_times(draws)))?;
+    let row = Row::try_from(make_numbers(draws))?;
     writer.put(&row)?;
     if draws.one_in(2) {
         let length = 1 + draws.below(31) as usize;
@@ -74,114 +62,165 @@ fn write_rows(buffer: &mut [u8], draws: &mut Generator) -> Result<usize, Fault> 
 // A line-up that the writer wrote.
 pub(crate) fn written(heap: Global, draws: &mut Generator) -> io::Result<Vec<u8>> {
     let mut buffer = [0u8; 2048];
-    let mut bytes = Vec::new(heap);
-    if let Ok(len) = write_rows(&mut buffer, draws) {
-        for byte in buffer.iter().take(len) {
-            bytes.push(*byte)?;
+    let len = write_rows(&mut buffer, draws).unwrap_or(0);
+    Ok(buffer.iter().take(len).copied().collect(heap)?)
+}
+
+// Puts a wrong number in the place of one of them, or keeps some bits of the short budget. A helper has no long budget.
+fn break_limit(numbers: RowNumbers, place: u32, wrong: u32) -> RowNumbers {
+    match numbers {
+        RowNumbers::Track {
+            period,
+            deadline,
+            short,
+            long,
+        } => RowNumbers::Track {
+            period: if place == 0 { wrong } else { period },
+            deadline: if place == 1 { wrong } else { deadline },
+            long: if place == 2 { wrong } else { long },
+            short: if place == 3 { long & wrong } else { short },
+        },
+        RowNumbers::Helper {
+            period,
+            deadline,
+            short,
+        } => RowNumbers::Helper {
+            period: if place == 0 { wrong } else { period },
+            deadline: if place == 1 { wrong } else { deadline },
+            short: if place == 3 { short & wrong } else { short },
+        },
+    }
+}
+
+// A line-up in the making, bit by bit. Mistakes are rarer by the factor `care`.
+#[derive(Drop)]
+struct Packer<'a> {
+    draws: &'a mut Generator,
+    bits: Bits,
+    care: u32,
+}
+
+impl Packer<'_> {
+    // Whether a mistake comes that is made once in n times, without care.
+    fn errs(&mut self, n: u32) -> bool {
+        self.draws.one_in(self.care.saturating_mul(n))
+    }
+
+    // Numbers of which some limit may be broken.
+    fn any_numbers(&mut self) -> RowNumbers {
+        let numbers = make_numbers(self.draws);
+        if !self.errs(12) {
+            return numbers;
         }
+        let wrong = self.draws.below(262_144);
+        break_limit(numbers, self.draws.below(4), wrong)
     }
-    Ok(bytes)
-}
 
-// Times of which some limit may be broken. Mistakes are rarer by the factor `care`.
-fn any_times(draws: &mut Generator, care: u32) -> Times {
-    let mut times = make_times(draws);
-    if draws.one_in(care.saturating_mul(12)) {
-        let wrong = draws.below(262_144);
-        match draws.below(4) {
-            0 => times.period = wrong,
-            1 => times.deadline = wrong,
-            2 => times.long = wrong,
-            _ => times.short = times.long & wrong,
+    fn pack_row(&mut self) -> io::Result<()> {
+        let numbers = self.any_numbers();
+        let filling = if self.errs(40) {
+            self.draws.below(128)
+        } else {
+            0
+        };
+        match numbers {
+            RowNumbers::Track {
+                period,
+                deadline,
+                short,
+                long,
+            } => {
+                self.bits.put(1, 3)?;
+                for time in [period, deadline, short, long] {
+                    self.bits.put(time, 18)?;
+                }
+                self.bits.put(filling, 5)?;
+            }
+            RowNumbers::Helper {
+                period,
+                deadline,
+                short,
+            } => {
+                self.bits.put(0, 3)?;
+                for time in [period, deadline, short] {
+                    self.bits.put(time, 18)?;
+                }
+                self.bits.put(filling, 7)?;
+            }
         }
+        Ok(())
     }
-    times
-}
 
-fn pack_row(bits: &mut Bits, draws: &mut Generator, care: u32) -> io::Result<()> {
-    let times = any_times(draws, care);
-    bits.put(if times.track { 1 } else { 0 }, 3)?;
-    bits.put(times.period, 18)?;
-    bits.put(times.deadline, 18)?;
-    bits.put(times.short, 18)?;
-    if times.track {
-        bits.put(times.long, 18)?;
+    fn pack_label(&mut self) -> io::Result<()> {
+        let length = if self.errs(20) {
+            0
+        } else {
+            1 + self.draws.below(31)
+        };
+        self.bits.put(2, 3)?;
+        self.bits.put(length, 5)?;
+        let range = if self.errs(20) { 224 } else { 95 };
+        for _ in 0..length {
+            self.bits.put(32 + self.draws.below(range), 8)?;
+        }
+        Ok(())
     }
-    let filling = if draws.one_in(care.saturating_mul(40)) {
-        draws.below(128)
-    } else {
-        0
-    };
-    bits.put(filling, if times.track { 5 } else { 7 })?;
-    Ok(())
-}
 
-fn pack_label(bits: &mut Bits, draws: &mut Generator, care: u32) -> io::Result<()> {
-    let length = if draws.one_in(care.saturating_mul(20)) {
-        0
-    } else {
-        1 + draws.below(31)
-    };
-    bits.put(2, 3)?;
-    bits.put(length, 5)?;
-    let range = if draws.one_in(care.saturating_mul(20)) {
-        224
-    } else {
-        95
-    };
-    for _ in 0..length {
-        bits.put(32 + draws.below(range), 8)?;
+    // Up to two labels, and now and then a kind that there is not.
+    fn pack_behind_row(&mut self) -> io::Result<()> {
+        if self.draws.one_in(2) {
+            self.pack_label()?;
+        }
+        if self.errs(40) {
+            self.pack_label()?;
+        }
+        if self.errs(60) {
+            self.bits.put(4 + self.draws.below(4), 3)?;
+            self.bits.put(self.draws.below(32), 5)?;
+        }
+        Ok(())
     }
-    Ok(())
-}
 
-// Up to two labels, and now and then a kind that there is not.
-fn pack_behind_row(bits: &mut Bits, draws: &mut Generator, care: u32) -> io::Result<()> {
-    if draws.one_in(2) {
-        pack_label(bits, draws, care)?;
+    // The end record, with a wrong count, or twice, or not at all.
+    fn pack_end(&mut self, count: u32) -> io::Result<()> {
+        let count = if self.draws.one_in(12) {
+            self.draws.below(32)
+        } else {
+            count.saturating_sub(1)
+        };
+        let times = if self.draws.one_in(12) {
+            self.draws.below(3)
+        } else {
+            1
+        };
+        for _ in 0..times {
+            self.bits.put(3, 3)?;
+            self.bits.put(count, 5)?;
+        }
+        Ok(())
     }
-    if draws.one_in(care.saturating_mul(40)) {
-        pack_label(bits, draws, care)?;
-    }
-    if draws.one_in(care.saturating_mul(60)) {
-        bits.put(4 + draws.below(4), 3)?;
-        bits.put(draws.below(32), 5)?;
-    }
-    Ok(())
-}
-
-// The end record, with a wrong count, or twice, or not at all.
-fn pack_end(bits: &mut Bits, draws: &mut Generator, count: u32) -> io::Result<()> {
-    let count = if draws.one_in(12) {
-        draws.below(32)
-    } else {
-        count.saturating_sub(1)
-    };
-    let times = if draws.one_in(12) { draws.below(3) } else { 1 };
-    for _ in 0..times {
-        bits.put(3, 3)?;
-        bits.put(count, 5)?;
-    }
-    Ok(())
 }
 
 // A line-up packed bit by bit, with mistakes.
 pub(crate) fn packed(heap: Global, draws: &mut Generator) -> io::Result<Vec<u8>> {
-    let mut bits = Bits::new(heap);
     let count = if draws.one_in(30) {
         0
     } else {
         make_count(draws)
     };
-    // so that a long line-up comes to its 33rd row
-    let care = if count > 5 { 20 } else { 1 };
-    if draws.one_in(60) {
-        pack_label(&mut bits, draws, care)?;
+    let mut packer = Packer {
+        draws,
+        bits: Bits::new(heap),
+        // so that a long line-up comes to its 33rd row
+        care: if count > 5 { 20 } else { 1 },
+    };
+    if packer.draws.one_in(60) {
+        packer.pack_label()?;
     }
     for _ in 0..count {
-        pack_row(&mut bits, draws, care)?;
-        pack_behind_row(&mut bits, draws, care)?;
+        packer.pack_row()?;
+        packer.pack_behind_row()?;
     }
-    pack_end(&mut bits, draws, count)?;
-    Ok(bits.bytes(heap)?)
+    packer.pack_end(count)?;
+    Ok(packer.bits.bytes(heap)?)
 }

@@ -16,7 +16,7 @@ const LINEUPS: u32 = 4000;
 fn main(rt: HostRuntime) -> io::Result<()> {
     let heap = rt.alloc();
     let mut draws = Generator::new(31);
-    let mut tally = tally::Tally::new();
+    let mut tally = tally::Tally::default();
     for turn in 0..LINEUPS {
         let mut bytes = if turn % 2 == 0 {
             lineups::written(heap, &mut draws)?
@@ -32,5 +32,5 @@ fn main(rt: HostRuntime) -> io::Result<()> {
             tally::print_disagreement(&rt, bytes.as_slice(), &decoded)?;
         }
     }
-    tally.print(&rt)
+    print!(rt; "{tally}")
 }

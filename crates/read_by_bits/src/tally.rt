@@ -1,65 +1,40 @@
 // What was seen, and how it is printed.
-use super::decode::{Decoded, Item};
-use std::io;
+use super::decode::Decoded;
+use lineup::Record;
+use std::{fmt, io};
+use tallies::{Agreement, Refusals, count};
 
-#[derive(Drop)]
+#[derive(Default, Drop)]
 pub struct Tally {
-    agreed: u32,
-    disagreed: u32,
+    agreement: Agreement,
     rows: u32,
     labels: u32,
     whole: u32,
-    // by the number of the refusal
-    refused: [u32; 9],
-}
-
-fn count(number: &mut u32) {
-    *number = number.saturating_add(1);
+    refusals: Refusals,
 }
 
 impl Tally {
-    pub(crate) fn new() -> Tally {
-        Tally {
-            agreed: 0,
-            disagreed: 0,
-            rows: 0,
-            labels: 0,
-            whole: 0,
-            refused: [0; 9],
-        }
-    }
-
-    pub(crate) fn note(&mut self, decoded: &Decoded, agreed: bool) {
-        if agreed {
-            count(&mut self.agreed);
-        } else {
-            count(&mut self.disagreed);
-        }
+    pub(crate) fn note(&mut self, decoded: &Decoded<'_>, agreed: bool) {
+        self.agreement.note(agreed);
         for item in decoded.items.iter() {
             match item {
-                Item::Row(_) => count(&mut self.rows),
-                Item::Label { .. } => count(&mut self.labels),
-                Item::End => count(&mut self.whole),
+                Record::Row(_) => count(&mut self.rows),
+                Record::Label { .. } => count(&mut self.labels),
+                Record::End => count(&mut self.whole),
             }
         }
-        if let Some((number, _)) = decoded.refused {
-            if let Some(times) = self.refused.get_mut(number as usize) {
-                count(times);
-            }
+        if let Some(fault) = decoded.refused {
+            self.refusals.note(fault.refusal.number());
         }
     }
+}
 
-    pub(crate) fn print(&self, rt: &HostRuntime) -> io::Result<()> {
-        println!(rt; "agreed {}", self.agreed)?;
-        println!(rt; "disagreed {}", self.disagreed)?;
-        println!(rt; "rows {}, labels {}", self.rows, self.labels)?;
-        println!(rt; "read to the end {}", self.whole)?;
-        for (number, times) in self.refused.iter().enumerate() {
-            if *times > 0 {
-                println!(rt; "refused by {number}: {times}")?;
-            }
-        }
-        Ok(())
+impl fmt::Display for Tally {
+    fn fmt<W: fmt::Write>(&self, f: &mut fmt::Formatter<W>) -> fmt::Result {
+        write!(f, "{}", self.agreement)?;
+        writeln!(f, "rows {}, labels {}", self.rows, self.labels)?;
+        writeln!(f, "read to the end {}", self.whole)?;
+        write!(f, "{}", self.refusals)
     }
 }
 
@@ -67,7 +42,7 @@ impl Tally {
 pub(crate) fn print_disagreement(
     rt: &HostRuntime,
     bytes: &[u8],
-    decoded: &Decoded,
+    decoded: &Decoded<'_>,
 ) -> io::Result<()> {
     print!(rt; "the reader disagrees on")?;
     for byte in bytes {
@@ -76,7 +51,9 @@ pub(crate) fn print_disagreement(
     let items = decoded.items.len();
     match decoded.refused {
         None => println!(rt; ": {items} records"),
-        Some((number, offset)) => {
+        Some(fault) => {
+            let number = fault.refusal.number();
+            let offset = fault.offset;
             println!(rt; ": {items} records, then refused by {number} at {offset}")
         }
     }

@@ -1,97 +1,53 @@
 // Follows a session's answers with the model.
 use super::history::Event;
-use super::model::{Expected, Model, same_turn};
+use super::model::Model;
+use super::standing::Standing;
 use board::Board;
-use law::{Answer, Call, Outcome};
+use law::{Answer, Call, Reply};
 use pool::Pool;
-use row::{Kind, Layer};
-use std::alloc::{AllocError, Global};
+use row::Kind;
+use std::alloc::AllocError;
 
-fn same_outcome(one: Outcome, other: Outcome) -> bool {
-    match one {
-        Outcome::Idle => matches!(other, Outcome::Idle),
-        Outcome::GoesOn => matches!(other, Outcome::GoesOn),
-        Outcome::Finished => matches!(other, Outcome::Finished),
-        Outcome::Cut => matches!(other, Outcome::Cut),
-    }
-}
-
-fn same_answer(expected: Expected, answer: Answer) -> bool {
-    match (expected, answer) {
-        (Expected::Turn(turn), Answer::Turn(other)) => same_turn(turn, other),
-        (Expected::Done(outcome), Answer::Done(other)) => same_outcome(outcome, other),
-        (Expected::Refused { number, place }, Answer::Refused(fault)) => {
-            let layer = matches!(fault.layer, Layer::Session);
-            layer && fault.refusal.number() == number && fault.place == place as u64
+impl Model<'_> {
+    // An arrival may get any block that is free, and the model follows it.
+    fn follow_arrival(&mut self, row: u32, kind: Kind, answer: Answer) -> Result<bool, AllocError> {
+        let standing = self.standing()?;
+        match (standing.arrive(row, kind), answer) {
+            (Ok(()), Ok(Reply::Block(block))) => {
+                self.events.push(Event::Admitted { row, kind, block })?;
+                Ok(standing.is_free(block))
+            }
+            (Err(fault), Err(other)) => Ok(fault == other),
+            _ => Ok(false),
         }
-        _ => false,
     }
-}
 
-// An arrival may get any block that is free, and the model follows it.
-fn follow_arrival(
-    heap: Global,
-    model: &mut Model,
-    row: u32,
-    kind: Kind,
-    answer: Answer,
-) -> Result<bool, AllocError> {
-    let jobs = model.jobs(heap)?;
-    let expected = model.arrive(jobs.as_slice(), row, kind);
-    match (expected, answer) {
-        (Expected::SomeBlock, Answer::Block(block)) => {
-            let free = model.is_free(jobs.as_slice(), block);
-            model.events.push(Event::Admitted { row, kind, block })?;
-            Ok(free)
+    fn follow_begin(&mut self, answer: Answer) -> Result<bool, AllocError> {
+        let begun = self.standing()?.begin();
+        if let Ok(turn) = begun {
+            self.events.push(Event::Begun(turn))?;
         }
-        _ => Ok(same_answer(expected, answer)),
+        Ok(begun.map(Reply::Turn) == answer)
     }
-}
 
-fn follow_begin(heap: Global, model: &mut Model, answer: Answer) -> Result<bool, AllocError> {
-    let jobs = model.jobs(heap)?;
-    let expected = model.begin(jobs.as_slice());
-    if let Expected::Turn(turn) = expected {
-        model.events.push(Event::Begun(turn))?;
-    }
-    Ok(same_answer(expected, answer))
-}
-
-// Whether the answer is the model's, which goes on as the rules say.
-pub(crate) fn follow(
-    heap: Global,
-    model: &mut Model,
-    call: Call,
-    answer: Answer,
-) -> Result<bool, AllocError> {
-    match call {
-        Call::Arrive { row, kind } => follow_arrival(heap, model, row, kind, answer),
-        Call::Begin => follow_begin(heap, model, answer),
-        Call::Report { turn, finished } => {
-            let expected = model.report(heap, turn, finished)?;
-            Ok(same_answer(expected, answer))
+    // Whether the answer is the model's, which goes on as the rules say.
+    pub(crate) fn follow(&mut self, call: Call, answer: Answer) -> Result<bool, AllocError> {
+        match call {
+            Call::Arrive { row, kind } => self.follow_arrival(row, kind, answer),
+            Call::Begin => self.follow_begin(answer),
+            Call::Report { turn, finished } => {
+                let outcome = self.report(turn, finished)?;
+                Ok(outcome.map(Reply::Done) == answer)
+            }
         }
     }
 }
 
-// Whether the board given back holds the rows with an unended job, and the pool's free blocks are those of the model.
-pub(crate) fn same_end<B: Board + Drop, P: Pool + Drop>(
-    heap: Global,
-    model: &Model,
-    board: B,
-    pool: P,
-) -> Result<bool, AllocError> {
-    let jobs = model.jobs(heap)?;
-    let mut board = board;
-    for row in 0..40u32 {
-        if board.remove(row) != model.unended(jobs.as_slice(), row).is_some() {
-            return Ok(false);
-        }
+impl Standing<'_> {
+    // Whether the board given back holds the rows with an unended job, and the pool's free blocks are those of the model.
+    pub(crate) fn is_left<B: Board + Drop, P: Pool + Drop>(&self, mut board: B, pool: P) -> bool {
+        let rows = (0..40).all(|row| board.remove(row) == self.unended(row).is_some());
+        let blocks = (0..70).all(|block| pool.is_free(block) == self.is_free(block));
+        rows && blocks
     }
-    for block in 0..70u32 {
-        if pool.is_free(block) != model.is_free(jobs.as_slice(), block) {
-            return Ok(false);
-        }
-    }
-    Ok(true)
 }

@@ -1,6 +1,6 @@
 // The same list again, with turns told by their numbers, and forged and stale ones before them.
 use generator::Generator;
-use law::{Answer, Call, Step, TurnNumbers, Work};
+use law::{Answer, Call, Reply, Step, TurnNumbers, Work};
 use std::alloc::{AllocError, Global};
 
 // Work with another row, another block or none; work where there was none.
@@ -15,11 +15,11 @@ fn other_work(draws: &mut Generator, work: Option<Work>) -> Option<Work> {
         0 => None,
         1 => Some(Work {
             row: work.row ^ 1,
-            block: work.block,
+            ..work
         }),
         _ => Some(Work {
-            row: work.row,
             block: work.block ^ 1,
+            ..work
         }),
     }
 }
@@ -37,7 +37,7 @@ fn forged_turn(draws: &mut Generator, turn: TurnNumbers) -> TurnNumbers {
 }
 
 // What the answers so far tell: the turn that is open, and the one that was open last.
-#[derive(Clone, Copy)]
+#[derive(Clone, Copy, Default)]
 struct Turns {
     open: Option<TurnNumbers>,
     stale: Option<TurnNumbers>,
@@ -46,11 +46,11 @@ struct Turns {
 impl Turns {
     fn note(self, answer: Answer) -> Turns {
         match answer {
-            Answer::Turn(turn) => Turns {
+            Ok(Reply::Turn(turn)) => Turns {
                 open: Some(turn),
-                stale: self.stale,
+                ..self
             },
-            Answer::Done(_) => Turns {
+            Ok(Reply::Done(_)) => Turns {
                 open: None,
                 stale: self.open,
             },
@@ -90,10 +90,7 @@ pub(crate) fn forge(
     log: &[Answer],
 ) -> Result<Vec<Step>, AllocError> {
     let mut all = Vec::new(heap);
-    let mut turns = Turns {
-        open: None,
-        stale: None,
-    };
+    let mut turns = Turns::default();
     for (step, answer) in steps.iter().zip(log.iter()) {
         put_forged(&mut all, draws, turns)?;
         match (*step, turns.open) {

@@ -1,7 +1,9 @@
 // The history of a session's accepted calls, and the jobs that it tells of.
+use judge::Plan;
 use law::TurnNumbers;
 use row::Kind;
 use std::alloc::{AllocError, Global};
+use tallies::count;
 
 #[derive(Clone, Copy)]
 pub enum Event {
@@ -11,23 +13,11 @@ pub enum Event {
     Reported { row: Option<u32>, finished: bool },
 }
 
-// What is known of a row of the plan, with the bounds of its jobs.
-#[derive(Clone, Copy)]
-pub struct Terms {
-    pub track: bool,
-    pub period: u32,
-    pub short: u32,
-    pub long: u32,
-    // of a normal job, and of an abnormal one, which only a track has
-    pub bound: u32,
-    pub long_bound: u32,
-}
-
 // An admitted arrival. It is unended once `from` events have come, and no more once more than `end.until` have.
 #[derive(Clone, Copy)]
 pub struct Admission {
     pub row: u32,
-    pub abnormal: bool,
+    pub kind: Kind,
     pub block: u32,
     pub arrival: u32,
     pub from: usize,
@@ -44,102 +34,77 @@ pub struct End {
 impl Admission {
     // Whether the job was unended when so many events had come.
     pub(crate) fn unended_at(&self, events: usize) -> bool {
-        self.from <= events
-            && match self.end {
-                None => true,
-                Some(end) => events <= end.until,
-            }
+        self.from <= events && self.end.is_none_or(|end| events <= end.until)
     }
-}
 
-pub(crate) fn row_count(plan: &[Terms]) -> u32 {
-    u32::try_from(plan.len()).unwrap_or(u32::MAX)
-}
-
-pub(crate) fn is_abnormal(kind: Kind) -> bool {
-    matches!(kind, Kind::Abnormal)
+    // Where the job ends that may have so many ticks.
+    fn end_among(&self, events: &[Event], budget: u32) -> Option<End> {
+        let mut ticks: u32 = 0;
+        let behind = events.get(self.from..)?;
+        let last = behind.iter().position(|event| match *event {
+            Event::Reported { row, finished } if row == Some(self.row) => {
+                ticks = ticks.saturating_add(1);
+                finished || ticks == budget
+            }
+            _ => false,
+        })?;
+        let until = self.from.saturating_add(last);
+        let passed = clock_of(events.get(self.from..=until)?);
+        Some(End {
+            until,
+            clock: self.arrival.saturating_add(passed),
+        })
+    }
 }
 
 // How many reports were accepted.
 pub(crate) fn clock_of(events: &[Event]) -> u32 {
-    let mut clock: u32 = 0;
-    for event in events {
-        if matches!(event, Event::Reported { .. }) {
-            clock = clock.saturating_add(1);
-        }
-    }
-    clock
+    let reports = events
+        .iter()
+        .filter(|event| matches!(event, Event::Reported { .. }));
+    u32::try_from(reports.count()).unwrap_or(u32::MAX)
 }
 
 // The turn that was begun and not reported yet.
 pub(crate) fn open_turn(events: &[Event]) -> Option<TurnNumbers> {
-    for event in events.iter().rev() {
-        match *event {
-            Event::Admitted { .. } => {}
-            Event::Begun(turn) => return Some(turn),
-            Event::Reported { .. } => return None,
-        }
+    let mut latest = events.iter().rev();
+    match latest.find(|event| !matches!(event, Event::Admitted { .. })) {
+        Some(Event::Begun(turn)) => Some(*turn),
+        _ => None,
     }
-    None
 }
 
-// Where a job of `row` with this budget ends, from the events behind its arrival at `arrival`, the first of which is event `from`.
-fn end_among(behind: &[Event], row: u32, budget: u32, arrival: u32, from: usize) -> Option<End> {
-    let mut clock = arrival;
-    let mut ticks: u32 = 0;
-    for (place, event) in behind.iter().enumerate() {
-        let Event::Reported {
-            row: worked,
-            finished,
-        } = *event
-        else {
-            continue;
-        };
-        clock = clock.saturating_add(1);
-        if worked != Some(row) {
-            continue;
-        }
-        ticks = ticks.saturating_add(1);
-        if finished || ticks == budget {
-            let until = from.saturating_add(place);
-            return Some(End { until, clock });
-        }
-    }
-    None
+// How many ticks a job of this kind may have; one of a row that is not in the plan may have none.
+fn budget(plan: &Plan, row: u32, kind: Kind) -> u32 {
+    plan.row(row as usize).map_or(0, |asked| match kind {
+        Kind::Normal => asked.short(),
+        Kind::Abnormal => asked.long(),
+    })
 }
 
 // Every job that the events tell of, in the order of arrival.
 pub(crate) fn admissions(
     heap: Global,
-    plan: &[Terms],
+    plan: &Plan,
     events: &[Event],
 ) -> Result<Vec<Admission>, AllocError> {
     let mut all = Vec::new(heap);
-    let mut arrival: u32 = 0;
+    let mut arrival = 0;
     for (place, event) in events.iter().enumerate() {
-        let from = place.saturating_add(1);
         match *event {
             Event::Begun(_) => {}
-            Event::Reported { .. } => arrival = arrival.saturating_add(1),
+            Event::Reported { .. } => count(&mut arrival),
             Event::Admitted { row, kind, block } => {
-                let abnormal = is_abnormal(kind);
-                let budget = match plan.get(row as usize) {
-                    Some(terms) if abnormal => terms.long,
-                    Some(terms) => terms.short,
-                    None => 0,
-                };
-                let end = match events.get(from..) {
-                    Some(behind) => end_among(behind, row, budget, arrival, from),
-                    None => None,
-                };
-                all.push(Admission {
+                let mut job = Admission {
                     row,
-                    abnormal,
+                    kind,
                     block,
                     arrival,
-                    from,
-                    end,
-                })?;
+                    from: place.saturating_add(1),
+                    end: None,
+                };
+                job.end = job.end_among(events, budget(plan, row, kind));
+                all.push(job)?;
             }
         }
     }

@@ -1,22 +1,21 @@
 // Prints the calls of a session with their answers.
-use law::{Answer, Call, Outcome, Step, TurnNumbers};
-use row::Kind;
+use law::{Answer, Call, Reply, Step, TurnNumbers};
 use std::io;
 
+// All that a turn tells: what a reply prints leaves out its number and clock.
 fn print_turn(rt: &HostRuntime, turn: TurnNumbers) -> io::Result<()> {
-    print!(rt; " turn {} at {}", turn.number, turn.clock)?;
-    match turn.work {
-        Some(work) => print!(rt; " row {} block {}", work.row, work.block),
-        None => print!(rt; " idle"),
-    }
+    print!(rt;
+        " turn {} at {} {}",
+        turn.number,
+        turn.clock,
+        Reply::Turn(turn)
+    )
 }
 
+// Of another crate's type, in this program's words: so no Display.
 fn print_step(rt: &HostRuntime, step: Step) -> io::Result<()> {
     match step {
-        Step::Given(Call::Arrive { row, kind }) => match kind {
-            Kind::Normal => print!(rt; "  arrive {row} normal"),
-            Kind::Abnormal => print!(rt; "  arrive {row} abnormal"),
-        },
+        Step::Given(Call::Arrive { row, kind }) => print!(rt; "  arrive {row} {kind}"),
         Step::Given(Call::Begin) => print!(rt; "  begin"),
         Step::Given(Call::Report { turn, finished }) => {
             print!(rt; "  report")?;
@@ -27,29 +26,21 @@ fn print_step(rt: &HostRuntime, step: Step) -> io::Result<()> {
     }
 }
 
+// As `print_step`: a refusal's own words name its layer too.
 fn print_answer(rt: &HostRuntime, answer: Answer) -> io::Result<()> {
     match answer {
-        Answer::Block(block) => print!(rt; " block {block}"),
-        Answer::Turn(turn) => print_turn(rt, turn),
-        Answer::Done(Outcome::Idle) => print!(rt; " idle"),
-        Answer::Done(Outcome::GoesOn) => print!(rt; " goes on"),
-        Answer::Done(Outcome::Finished) => print!(rt; " finished"),
-        Answer::Done(Outcome::Cut) => print!(rt; " cut"),
-        Answer::Refused(fault) => {
+        Ok(Reply::Turn(turn)) => print_turn(rt, turn),
+        Ok(reply) => print!(rt; " {reply}"),
+        Err(fault) => {
             let number = fault.refusal.number();
             print!(rt; " refused by {number} at {}", fault.place)
         }
     }
 }
 
-// The first `count` steps and their answers.
-pub(crate) fn print_calls(
-    rt: &HostRuntime,
-    steps: &[Step],
-    log: &[Answer],
-    count: usize,
-) -> io::Result<()> {
-    for (step, answer) in steps.iter().zip(log.iter()).take(count) {
+// The steps that the log answers.
+pub(crate) fn print_calls(rt: &HostRuntime, steps: &[Step], log: &[Answer]) -> io::Result<()> {
+    for (step, answer) in steps.iter().zip(log.iter()) {
         print_step(rt, *step)?;
         print!(rt; ":")?;
         print_answer(rt, *answer)?;

@@ -1,8 +1,8 @@
 // Generated lists of steps: mostly what a host would call, with calls that make no sense among them.
-use super::history::{Terms, row_count};
 use generator::Generator;
+use judge::Plan;
 use law::{Call, Step, TurnNumbers, Work};
-use row::Kind;
+use row::{Kind, Row};
 use std::alloc::{AllocError, Global};
 
 const TICKS: u32 = 90;
@@ -35,36 +35,6 @@ fn make_kind(draws: &mut Generator, n: u32) -> Kind {
         Kind::Abnormal
     } else {
         Kind::Normal
-    }
-}
-
-// When each row is due again, if each arrival was admitted.
-#[derive(Drop)]
-struct Schedule {
-    due: Vec<u32>,
-}
-
-impl Schedule {
-    // Whether the row arrives now: when it is due, and now and then too early.
-    fn arrives(
-        &mut self,
-        draws: &mut Generator,
-        style: Style,
-        row: u32,
-        tick: u32,
-        period: u32,
-    ) -> bool {
-        let Some(due) = self.due.get_mut(row as usize) else {
-            return false;
-        };
-        if tick < *due {
-            return draws.one_in(30);
-        }
-        if draws.below(8) >= style.eager {
-            return false;
-        }
-        *due = tick.saturating_add(period);
-        true
     }
 }
 
@@ -112,60 +82,108 @@ fn stray_step(draws: &mut Generator, rows: u32) -> Step {
     Step::Given(call)
 }
 
-// The arrivals of one tick, of all rows or of the helpers. The order of the rows begins anywhere.
-fn put_arrivals(
-    steps: &mut Vec<Step>,
-    draws: &mut Generator,
+// A list in the making, and when each row is due again, if each arrival was admitted.
+#[derive(Drop)]
+struct Schedule<'a> {
+    draws: &'a mut Generator,
+    plan: &'a Plan,
     style: Style,
-    schedule: &mut Schedule,
-    plan: &[Terms],
-    tick: u32,
-    helpers_only: bool,
-) -> Result<(), AllocError> {
-    let rows = row_count(plan);
-    let start = draws.below(rows);
-    for place in 0..rows {
-        let row = start.saturating_add(place) % rows;
-        let Some(terms) = plan.get(row as usize).copied() else {
-            continue;
-        };
-        if helpers_only && terms.track {
-            continue;
-        }
-        if schedule.arrives(draws, style, row, tick, terms.period) {
-            let kind = make_kind(draws, if terms.track { style.abnormal } else { 20 });
-            steps.push(Step::Given(Call::Arrive { row, kind }))?;
-        }
+    due: Vec<u32>,
+    steps: Vec<Step>,
+}
+
+impl Schedule<'_> {
+    fn rows(&self) -> u32 {
+        self.plan.len() as u32
     }
-    Ok(())
+
+    // Whether the row arrives now: when it is due, and now and then too early.
+    fn arrives(&mut self, row: u32, tick: u32, period: u32) -> bool {
+        let Some(due) = self.due.get_mut(row as usize) else {
+            return false;
+        };
+        if tick < *due {
+            return self.draws.one_in(30);
+        }
+        if self.draws.below(8) >= self.style.eager {
+            return false;
+        }
+        *due = tick.saturating_add(period);
+        true
+    }
+
+    fn put(&mut self, call: Call) -> Result<(), AllocError> {
+        self.steps.push(Step::Given(call))?;
+        Ok(())
+    }
+
+    fn put_arrival(&mut self, row: u32, asked: Row, tick: u32) -> Result<(), AllocError> {
+        if self.arrives(row, tick, asked.period()) {
+            let one_in = if asked.is_track() {
+                self.style.abnormal
+            } else {
+                20
+            };
+            let kind = make_kind(self.draws, one_in);
+            self.put(Call::Arrive { row, kind })?;
+        }
+        Ok(())
+    }
+
+    // The arrivals of one tick, of all rows or of the helpers. The order of the rows begins anywhere.
+    fn put_arrivals(&mut self, tick: u32, helpers_only: bool) -> Result<(), AllocError> {
+        let rows = self.rows();
+        let start = self.draws.below(rows);
+        // By number, since a plan gives a row by its number only.
+        for row in (start..rows).chain(0..start) {
+            if let Some(asked) = self.plan.row(row as usize) {
+                if !(helpers_only && asked.is_track()) {
+                    self.put_arrival(row, asked, tick)?;
+                }
+            }
+        }
+        Ok(())
+    }
+
+    // Now and then a call that makes little sense where it stands.
+    fn put_noise(&mut self) -> Result<(), AllocError> {
+        if self.draws.one_in(self.style.noise) {
+            let rows = self.rows();
+            self.steps.push(stray_step(self.draws, rows))?;
+        }
+        Ok(())
+    }
+
+    fn put_tick(&mut self, tick: u32) -> Result<(), AllocError> {
+        self.put_noise()?;
+        // where helpers come first, an abnormal arrival at the same tick refuses none of them
+        if self.draws.one_in(2) {
+            self.put_arrivals(tick, true)?;
+        }
+        self.put_arrivals(tick, false)?;
+        self.put(Call::Begin)?;
+        self.put_noise()?;
+        let finished = self.draws.one_in(self.style.finished);
+        self.steps.push(Step::ReportOpen { finished })?;
+        Ok(())
+    }
 }
 
 pub(crate) fn make_steps(
     heap: Global,
     draws: &mut Generator,
-    plan: &[Terms],
+    plan: &Plan,
 ) -> Result<Vec<Step>, AllocError> {
     let style = make_style(draws);
-    let rows = row_count(plan);
     let mut schedule = Schedule {
+        draws,
+        plan,
+        style,
         due: vec![in heap; 0; plan.len()]?,
+        steps: Vec::new(heap),
     };
-    let mut steps = Vec::new(heap);
     for tick in 0..TICKS {
-        if draws.one_in(style.noise) {
-            steps.push(stray_step(draws, rows))?;
-        }
-        // where helpers come first, an abnormal arrival at the same tick refuses none of them
-        if draws.one_in(2) {
-            put_arrivals(&mut steps, draws, style, &mut schedule, plan, tick, true)?;
-        }
-        put_arrivals(&mut steps, draws, style, &mut schedule, plan, tick, false)?;
-        steps.push(Step::Given(Call::Begin))?;
-        if draws.one_in(style.noise) {
-            steps.push(stray_step(draws, rows))?;
-        }
-        let finished = draws.one_in(style.finished);
-        steps.push(Step::ReportOpen { finished })?;
+        schedule.put_tick(tick)?;
     }
-    Ok(steps)
+    Ok(schedule.steps)
 }

@@ -1,24 +1,25 @@
 // What was seen, and how it is printed.
-use super::history::{Admission, Terms};
-use super::model::Model;
-use law::{Answer, Outcome};
-use std::io;
+use super::history::Admission;
+use super::standing::Standing;
+use judge::{Bounds, Plan};
+use law::{Answer, Outcome, Reply, TurnNumbers};
+use row::{Fault, Kind, Refusal};
+use std::{fmt, io};
+use tallies::{Agreement, Refusals, count};
 
 // The latest responses of the jobs of a row: normal and abnormal ones.
-#[derive(Clone, Copy)]
+#[derive(Clone, Copy, Default)]
 pub struct Latest {
     pub normal: u32,
     pub abnormal: u32,
 }
 
-#[derive(Drop)]
+#[derive(Default, Drop)]
 pub struct Tally {
     pub sessions: u32,
-    pub agreed: u32,
-    pub disagreed: u32,
+    pub calls: Agreement,
     // boards and pools at the end of a session
-    pub ends_agreed: u32,
-    pub ends_disagreed: u32,
+    pub ends: Agreement,
     blocks: u32,
     work_turns: u32,
     idle_turns: u32,
@@ -26,8 +27,7 @@ pub struct Tally {
     going_on: u32,
     finished: u32,
     cut: u32,
-    // by the number of the refusal
-    refused: [u32; 23],
+    refused: Refusals,
     // no block, though there are as many as rows
     wanting: u32,
     ended: u32,
@@ -37,39 +37,30 @@ pub struct Tally {
     unbounded: u32,
 }
 
-pub(crate) fn count(number: &mut u32) {
-    *number = number.saturating_add(1);
+// The bound of a row's jobs of this kind. Those of a helper are normal.
+// Reckoned here too: the model shares no code with what it tests.
+fn bound_of(bounds: Bounds, kind: Kind) -> u32 {
+    match (bounds.late, kind) {
+        (None, _) => bounds.normal,
+        (Some(late), Kind::Normal) => late.mixed,
+        (Some(late), Kind::Abnormal) => late.long,
+    }
+}
+
+impl Latest {
+    fn note(&mut self, kind: Kind, response: u32) {
+        let latest = match kind {
+            Kind::Normal => &mut self.normal,
+            Kind::Abnormal => &mut self.abnormal,
+        };
+        *latest = response.max(*latest);
+    }
 }
 
 impl Tally {
-    pub(crate) fn new() -> Tally {
-        Tally {
-            sessions: 0,
-            agreed: 0,
-            disagreed: 0,
-            ends_agreed: 0,
-            ends_disagreed: 0,
-            blocks: 0,
-            work_turns: 0,
-            idle_turns: 0,
-            idle: 0,
-            going_on: 0,
-            finished: 0,
-            cut: 0,
-            refused: [0; 23],
-            wanting: 0,
-            ended: 0,
-            at_bound: 0,
-            late: 0,
-            unbounded: 0,
-        }
-    }
-
-    fn note_refusal(&mut self, number: u8, enough: bool) {
-        if let Some(times) = self.refused.get_mut(number as usize) {
-            count(times);
-        }
-        if number == 20 && enough {
+    fn note_refusal(&mut self, fault: Fault, enough: bool) {
+        self.refused.note(fault.refusal.number());
+        if fault.refusal == Refusal::NoFreeBlock && enough {
             count(&mut self.wanting);
         }
     }
@@ -77,19 +68,14 @@ impl Tally {
     // Notes an answer; `enough` says that there are as many blocks as rows.
     pub(crate) fn note(&mut self, answer: Answer, enough: bool) {
         match answer {
-            Answer::Block(_) => count(&mut self.blocks),
-            Answer::Turn(turn) => {
-                if turn.work.is_some() {
-                    count(&mut self.work_turns);
-                } else {
-                    count(&mut self.idle_turns);
-                }
-            }
-            Answer::Done(Outcome::Idle) => count(&mut self.idle),
-            Answer::Done(Outcome::GoesOn) => count(&mut self.going_on),
-            Answer::Done(Outcome::Finished) => count(&mut self.finished),
-            Answer::Done(Outcome::Cut) => count(&mut self.cut),
-            Answer::Refused(fault) => self.note_refusal(fault.refusal.number(), enough),
+            Ok(Reply::Block(_)) => count(&mut self.blocks),
+            Ok(Reply::Turn(TurnNumbers { work: Some(_), .. })) => count(&mut self.work_turns),
+            Ok(Reply::Turn(TurnNumbers { work: None, .. })) => count(&mut self.idle_turns),
+            Ok(Reply::Done(Outcome::Idle)) => count(&mut self.idle),
+            Ok(Reply::Done(Outcome::GoesOn)) => count(&mut self.going_on),
+            Ok(Reply::Done(Outcome::Finished)) => count(&mut self.finished),
+            Ok(Reply::Done(Outcome::Cut)) => count(&mut self.cut),
+            Err(fault) => self.note_refusal(fault, enough),
         }
     }
 
@@ -109,77 +95,65 @@ impl Tally {
         if response > bound {
             count(&mut self.late);
         }
-        if job.abnormal {
-            latest.abnormal = latest.abnormal.max(response);
-        } else {
-            latest.normal = latest.normal.max(response);
-        }
+        latest.note(job.kind, response);
     }
 
     // Compares the response of each job of a session with its bound.
-    pub(crate) fn note_jobs(
-        &mut self,
-        model: &Model,
-        jobs: &[Admission],
-        latest: &mut Vec<Latest>,
-    ) {
-        let clock = model.clock();
+    pub(crate) fn note_jobs(&mut self, standing: &Standing<'_>, latest: &mut [Latest]) {
+        let jobs = standing.jobs.as_slice();
         for job in jobs {
-            let Some(terms) = model.plan.get(job.row as usize).copied() else {
+            let row = job.row as usize;
+            let Some(bounds) = standing.setting.plan.bounds(row) else {
                 continue;
             };
-            if !terms.track && met_abnormal(job, jobs) {
+            // only a helper's bound needs that all jobs are normal
+            if bounds.late.is_none() && met_abnormal(job, jobs) {
                 count(&mut self.unbounded);
-                continue;
-            }
-            let bound = if job.abnormal {
-                terms.long_bound
-            } else {
-                terms.bound
-            };
-            if let Some(latest) = latest.get_mut(job.row as usize) {
-                self.note_response(job, clock, bound, latest);
+            } else if let Some(latest) = latest.get_mut(row) {
+                self.note_response(job, standing.clock, bound_of(bounds, job.kind), latest);
             }
         }
     }
 
-    fn print_answers(&self, rt: &HostRuntime) -> io::Result<()> {
-        println!(rt; "blocks {}", self.blocks)?;
-        println!(rt;
+    fn write_answers<W: fmt::Write>(&self, f: &mut fmt::Formatter<W>) -> fmt::Result {
+        writeln!(f, "blocks {}", self.blocks)?;
+        writeln!(
+            f,
             "turns for a row {}, idle turns {}",
             self.work_turns, self.idle_turns
         )?;
-        println!(rt;
+        writeln!(
+            f,
             "idle {}, goes on {}, finished {}, cut {}",
             self.idle, self.going_on, self.finished, self.cut
         )?;
-        for (number, times) in self.refused.iter().enumerate() {
-            if *times > 0 {
-                println!(rt; "refused by {number}: {times}")?;
-            }
-        }
-        Ok(())
+        write!(f, "{}", self.refused)
     }
+}
 
-    pub(crate) fn print(&self, rt: &HostRuntime) -> io::Result<()> {
-        let calls = self.agreed.saturating_add(self.disagreed);
-        println!(rt; "sessions {}, calls {calls}", self.sessions)?;
-        println!(rt; "agreed {}", self.agreed)?;
-        println!(rt; "disagreed {}", self.disagreed)?;
-        println!(rt;
+impl fmt::Display for Tally {
+    fn fmt<W: fmt::Write>(&self, f: &mut fmt::Formatter<W>) -> fmt::Result {
+        let calls = self.calls.agreed.saturating_add(self.calls.disagreed);
+        writeln!(f, "sessions {}, calls {calls}", self.sessions)?;
+        write!(f, "{}", self.calls)?;
+        writeln!(
+            f,
             "board and pool at the end: agreed {}, disagreed {}",
-            self.ends_agreed, self.ends_disagreed
+            self.ends.agreed, self.ends.disagreed
         )?;
-        self.print_answers(rt)?;
-        println!(rt;
+        self.write_answers(f)?;
+        writeln!(
+            f,
             "refused by 20 with as many blocks as rows: {}",
             self.wanting
         )?;
-        println!(rt;
+        writeln!(
+            f,
             "jobs ended {}, at exactly the bound {}, late {}",
             self.ended, self.at_bound, self.late
         )?;
-        println!(rt;
+        writeln!(
+            f,
             "jobs of helpers that met an abnormal arrival {}",
             self.unbounded
         )
@@ -188,26 +162,26 @@ impl Tally {
 
 // Whether an abnormal job was admitted after this one, while it was unended.
 fn met_abnormal(job: &Admission, jobs: &[Admission]) -> bool {
-    for other in jobs {
-        if other.abnormal && other.from > job.from && job.unended_at(other.from) {
-            return true;
-        }
-    }
-    false
+    let mut behind = jobs.iter().filter(|other| other.from > job.from);
+    behind.any(|other| other.kind == Kind::Abnormal && job.unended_at(other.from))
 }
 
 // The latest response of each row against its bound.
 pub(crate) fn print_latest(
     rt: &HostRuntime,
     name: &str,
-    plan: &[Terms],
+    plan: &Plan,
     all: &[Latest],
 ) -> io::Result<()> {
     println!(rt; "{name}, latest response and bound:")?;
-    for (row, (terms, latest)) in plan.iter().zip(all.iter()).enumerate() {
-        print!(rt; "  row {row}: normal {} of {}", latest.normal, terms.bound)?;
-        if terms.track {
-            print!(rt; ", abnormal {} of {}", latest.abnormal, terms.long_bound)?;
+    for (row, latest) in all.iter().enumerate() {
+        let Some(bounds) = plan.bounds(row) else {
+            continue;
+        };
+        let bound = bound_of(bounds, Kind::Normal);
+        print!(rt; "  row {row}: normal {} of {bound}", latest.normal)?;
+        if let Some(late) = bounds.late {
+            print!(rt; ", abnormal {} of {}", latest.abnormal, late.long)?;
         }
         println!(rt; "")?;
     }

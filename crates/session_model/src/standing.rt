@@ -1,0 +1,117 @@
+// Where a session stands, by its events so far, and what arrivals and turns it then admits.
+use super::history::Admission;
+use super::model::Setting;
+use law::{TurnNumbers, Work};
+use row::{Fault, Kind, Layer, Refusal};
+
+const LAST_CLOCK: u32 = 4_000_000_000;
+
+// How many events have come, and what they tell of.
+#[derive(Drop)]
+pub struct Standing<'a> {
+    pub setting: Setting<'a>,
+    pub events: usize,
+    pub clock: u32,
+    pub open: Option<TurnNumbers>,
+    pub jobs: Vec<Admission>,
+}
+
+pub(crate) fn refused(refusal: Refusal, place: u32) -> Fault {
+    Fault {
+        refusal,
+        layer: Layer::Session,
+        place: u64::from(place),
+    }
+}
+
+impl Standing<'_> {
+    fn is_unended(&self, job: &Admission) -> bool {
+        job.unended_at(self.events)
+    }
+
+    // The unended job of a row.
+    pub(crate) fn unended(&self, row: u32) -> Option<Admission> {
+        let mut jobs = self.jobs.iter().copied();
+        jobs.find(|job| job.row == row && self.is_unended(job))
+    }
+
+    pub(crate) fn is_free(&self, block: u32) -> bool {
+        let mut jobs = self.jobs.iter();
+        let held = jobs.any(|job| job.block == block && self.is_unended(job));
+        !held && block < self.setting.blocks
+    }
+
+    fn has_free(&self) -> bool {
+        (0..self.setting.blocks).any(|block| self.is_free(block))
+    }
+
+    // Whether an abnormal job has arrived since some job has been unended all the time.
+    fn mode_is_abnormal(&self) -> bool {
+        let jobs = self.jobs.as_slice();
+        let points = (0..=self.events).rev();
+        points
+            .take_while(|point| jobs.iter().any(|job| job.unended_at(*point)))
+            .any(|point| {
+                let mut jobs = jobs.iter();
+                jobs.any(|job| job.from == point && job.kind == Kind::Abnormal)
+            })
+    }
+
+    // Whether the row's last job arrived less than a period ago.
+    fn too_early(&self, row: u32, period: u32) -> bool {
+        let last = self.jobs.iter().rev().find(|job| job.row == row);
+        last.is_some_and(|job| self.clock < job.arrival.saturating_add(period))
+    }
+
+    // Refuses where neither an arrival nor a turn may come.
+    fn ready(&self) -> Result<(), Fault> {
+        if self.open.is_some() {
+            Err(refused(Refusal::TurnOpen, self.clock))
+        } else if self.clock >= LAST_CLOCK {
+            Err(refused(Refusal::ClockFull, self.clock))
+        } else {
+            Ok(())
+        }
+    }
+
+    // Whether the arrival is admitted. Which block it gets is left open, if it is free.
+    pub(crate) fn arrive(&self, row: u32, kind: Kind) -> Result<(), Fault> {
+        self.ready()?;
+        let Some(asked) = self.setting.plan.row(row as usize) else {
+            return Err(refused(Refusal::NotInPlan, row));
+        };
+        let helper = !asked.is_track();
+        let checks = [
+            (Refusal::AbnormalHelper, helper && kind == Kind::Abnormal),
+            (Refusal::TooEarly, self.too_early(row, asked.period())),
+            (
+                Refusal::HelperInAbnormalMode,
+                helper && self.mode_is_abnormal(),
+            ),
+            (Refusal::JobNotEnded, self.unended(row).is_some()),
+            (Refusal::NoFreeBlock, !self.has_free()),
+        ];
+        match checks.iter().find(|(_, applies)| *applies) {
+            Some((refusal, _)) => Err(refused(*refusal, row)),
+            None => Ok(()),
+        }
+    }
+
+    // The smallest row with an unended job, and its block.
+    fn due(&self) -> Option<Work> {
+        let unended = self.jobs.iter().filter(|job| self.is_unended(job));
+        unended.min_by_key(|job| job.row).map(|job| Work {
+            row: job.row,
+            block: job.block,
+        })
+    }
+
+    pub(crate) fn begin(&self) -> Result<TurnNumbers, Fault> {
+        self.ready()?;
+        Ok(TurnNumbers {
+            number: self.setting.number,
+            clock: self.clock,
+            work: self.due(),
+        })
+    }
+}
