@@ -7,29 +7,19 @@ use std::io;
 
 // The value of a hexadecimal digit, or none for any other byte.
 fn digit(byte: u8) -> Option<u8> {
-    match byte {
-        b'0'..=b'9' => Some(byte - b'0'),
-        b'a'..=b'f' => Some(byte - b'a' + 10),
-        _ => None,
-    }
+    let digit = char::from(byte).to_digit(16)?;
+    Some(digit as u8)
 }
 
-// The bytes that the digits spell, two for each; spaces are passed over.
+// The bytes that the digits spell, two for each; all else is passed over.
+// Not `script::decode`, which refuses text: what stands in this input is known.
 fn from_hex(heap: Global, text: &[u8]) -> io::Result<Vec<u8>> {
-    let mut bytes = Vec::new(heap);
-    let mut high = None;
-    for byte in text {
-        let Some(low) = digit(*byte) else {
-            continue;
-        };
-        match high {
-            None => high = Some(low),
-            Some(first) => {
-                bytes.push(first.wrapping_mul(16).wrapping_add(low))?;
-                high = None;
-            }
-        }
-    }
+    let digits: Vec<u8> = text.iter().filter_map(|byte| digit(*byte)).collect(heap)?;
+    let (pairs, _) = digits.as_slice().as_chunks::<2>();
+    let bytes = pairs
+        .iter()
+        .map(|[high, low]| high.wrapping_mul(16).wrapping_add(*low))
+        .collect(heap)?;
     Ok(bytes)
 }
 

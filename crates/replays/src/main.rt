@@ -3,13 +3,11 @@
 
 use board::{Board, ChainBoard, WordBoard};
 use judge::{Plan, judge};
-use law::{Answer, Call, Outcome, TurnNumbers, Work};
+use law::{Answer, Call, Outcome, Reply, TurnNumbers, Work};
 use pool::{BitmapPool, FreeListPool, Pool};
 use row::{Kind, RowNumbers};
 use session::{Session, SessionFault, replay};
 use std::io;
-
-const MOST: usize = 64;
 
 const NUMBER: u32 = 7;
 
@@ -38,69 +36,61 @@ fn arrive(row: u32, kind: Kind) -> Call {
     Call::Arrive { row, kind }
 }
 
-// A report of the turn for this row and block at this clock.
-fn report(clock: u32, row: u32, block: u32, finished: bool) -> Call {
+// A report of the turn for this work at this clock.
+fn report(clock: u32, work: Option<Work>, finished: bool) -> Call {
     let turn = TurnNumbers {
         number: NUMBER,
         clock,
-        work: Some(Work { row, block }),
+        work,
     };
     Call::Report { turn, finished }
 }
 
-// A report of the idle turn at this clock.
-fn report_idle(clock: u32, finished: bool) -> Call {
-    let turn = TurnNumbers {
-        number: NUMBER,
-        clock,
-        work: None,
-    };
-    Call::Report { turn, finished }
+fn work(row: u32, block: u32) -> Option<Work> {
+    Some(Work { row, block })
 }
 
+// Of another crate's type, in this program's words: so no Display.
 fn print_answer(rt: &HostRuntime, answer: Answer) -> io::Result<()> {
     match answer {
-        Answer::Block(block) => print!(rt; " block {block}"),
-        Answer::Turn(turn) => match turn.work {
-            Some(work) => {
-                let row = work.row;
-                let block = work.block;
-                print!(rt; " row {row} block {block}")
-            }
-            None => print!(rt; " idle"),
-        },
-        Answer::Done(Outcome::Idle) => print!(rt; " idle"),
-        Answer::Done(Outcome::GoesOn) => print!(rt; " goes on"),
-        Answer::Done(Outcome::Finished) => print!(rt; " finished"),
-        Answer::Done(Outcome::Cut) => print!(rt; " cut"),
-        Answer::Refused(fault) => {
+        Ok(reply) => print!(rt; " {reply},"),
+        Err(fault) => {
             let number = fault.refusal.number();
             let place = fault.place;
-            print!(rt; " refused {number} at {place}")
+            print!(rt; " refused {number} at {place},")
         }
     }
 }
 
-// Replays the calls over a board and a pool, and prints the answers on one line.
-fn run<B: Board + Drop, P: Pool + Drop>(
-    rt: &HostRuntime,
-    name: &str,
-    plan: &Plan,
-    board: B,
-    pool: P,
-    calls: &[Call],
-) -> io::Result<()> {
-    let mut log = [Answer::Done(Outcome::Idle); MOST];
-    let _ = replay(plan, board, pool, NUMBER, calls, &mut log);
-    print!(rt; "{name}:")?;
-    for answer in log.iter().take(calls.len()) {
-        print_answer(rt, *answer)?;
-        print!(rt; ",")?;
-    }
-    println!(rt; "")
+// What is replayed over each pair of a board and a pool.
+#[derive(Clone, Copy)]
+struct Replay<'a> {
+    rt: &'a HostRuntime,
+    plan: &'a Plan,
+    calls: &'a [Call],
 }
 
-// Gives the processor for one tick to the row that is due. A turn that was just begun is never refused.
+impl Replay<'_> {
+    // Replays the calls over a board and a pool, and prints the answers on one line.
+    fn run<B: Board + Drop, P: Pool + Drop>(
+        &self,
+        name: &str,
+        board: B,
+        pool: P,
+    ) -> io::Result<()> {
+        let mut log = vec![in self.rt.alloc(); Ok(Reply::Done(Outcome::Idle)); self.calls.len()]?;
+        let answers = log.as_mut_slice();
+        let _ = replay(self.plan, board, pool, NUMBER, self.calls, answers);
+        print!(self.rt; "{name}:")?;
+        for answer in log.iter() {
+            print_answer(self.rt, *answer)?;
+        }
+        println!(self.rt; "")
+    }
+}
+
+// Gives the processor for one tick to the row that is due, by the turn and not by `run_due`: on this function the gate tries what
+// must not be done with a turn. A turn that was just begun is never refused.
 fn tick<B: Board, P: Pool>(session: &mut Session<'_, B, P>) -> Result<Outcome, SessionFault> {
     let turn = session.begin()?;
     match session.report(turn, false) {
@@ -116,13 +106,11 @@ fn run_worked<B: Board + Drop, P: Pool + Drop>(plan: &Plan, board: B, pool: P) -
     let _ = session.arrive(2, Kind::Abnormal);
     let _ = session.arrive(0, Kind::Abnormal);
     let mut outcomes = [Outcome::Idle; 15];
-    for clock in 0..15usize {
+    for (clock, outcome) in outcomes.iter_mut().enumerate() {
         if clock == 10 {
             let _ = session.arrive(0, Kind::Abnormal);
         }
-        if let Ok(outcome) = tick(&mut session) {
-            outcomes[clock] = outcome;
-        }
+        *outcome = tick(&mut session).unwrap_or(Outcome::Idle);
     }
     let _ = session.close();
     outcomes
@@ -131,8 +119,7 @@ fn run_worked<B: Board + Drop, P: Pool + Drop>(plan: &Plan, board: B, pool: P) -
 fn show_worked(rt: &HostRuntime, name: &str, outcomes: [Outcome; 15]) -> io::Result<()> {
     print!(rt; "{name}, worked example:")?;
     for outcome in outcomes.iter() {
-        print_answer(rt, Answer::Done(*outcome))?;
-        print!(rt; ",")?;
+        print!(rt; " {outcome},")?;
     }
     println!(rt; "")
 }
@@ -146,56 +133,38 @@ fn main(rt: HostRuntime) -> io::Result<()> {
         arrive(2, Kind::Normal),
         Call::Begin,
         arrive(1, Kind::Normal),
-        report(0, 1, 0, false),
-        report(0, 2, 0, false),
+        report(0, work(1, 0), false),
+        report(0, work(2, 0), false),
         arrive(1, Kind::Abnormal),
         arrive(0, Kind::Abnormal),
         arrive(1, Kind::Normal),
         arrive(3, Kind::Normal),
         arrive(2, Kind::Normal),
         Call::Begin,
-        report(1, 2, 0, true),
+        report(1, work(2, 0), true),
         arrive(0, Kind::Abnormal),
         Call::Begin,
-        report(2, 0, 0, false),
+        report(2, work(0, 0), false),
         arrive(1, Kind::Normal),
         Call::Begin,
-        report(3, 0, 0, true),
+        report(3, work(0, 0), true),
         Call::Begin,
-        report_idle(4, true),
-        report_idle(4, false),
+        report(4, None, true),
+        report(4, None, false),
     ];
-    run(
-        &rt,
-        "word and bit map",
-        &plan,
-        WordBoard::new(),
-        BitmapPool::new(1),
-        &calls,
-    )?;
-    run(
-        &rt,
-        "word and free list",
-        &plan,
-        WordBoard::new(),
-        FreeListPool::new(1),
-        &calls,
-    )?;
-    run(
-        &rt,
-        "chain and bit map",
-        &plan,
-        ChainBoard::new(),
-        BitmapPool::new(1),
-        &calls,
-    )?;
-    run(
-        &rt,
+    // Each pair has its own types, and a closure takes one type alone: so each pair has its call.
+    let replay = Replay {
+        rt: &rt,
+        plan: &plan,
+        calls: &calls,
+    };
+    replay.run("word and bit map", WordBoard::new(), BitmapPool::new(1))?;
+    replay.run("word and free list", WordBoard::new(), FreeListPool::new(1))?;
+    replay.run("chain and bit map", ChainBoard::new(), BitmapPool::new(1))?;
+    replay.run(
         "chain and free list",
-        &plan,
         ChainBoard::new(),
         FreeListPool::new(1),
-        &calls,
     )?;
     let outcomes = run_worked(&plan, WordBoard::new(), BitmapPool::new(3));
     show_worked(&rt, "word and bit map", outcomes)?;

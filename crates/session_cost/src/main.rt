@@ -4,12 +4,11 @@
 
 use board::{Board, ChainBoard, WordBoard};
 use judge::{Plan, judge};
-use law::Outcome;
 use pool::{BitmapPool, FreeListPool, Pool};
 use row::{Kind, RowNumbers};
 use session::{Session, SessionFault};
 use std::time::Instant;
-use std::{env, io};
+use std::{array, env, io};
 
 // Sixteen rows, so that a random row is the low four bits of a byte.
 const ROWS: usize = 16;
@@ -19,14 +18,9 @@ const TICKS: u32 = 2000;
 
 // Two tracks and a helper in turn; the periods rise by 6 from 24.
 fn rows() -> [RowNumbers; ROWS] {
-    let mut rows = [RowNumbers::Helper {
-        period: 0,
-        deadline: 0,
-        short: 2,
-    }; ROWS];
-    for k in 0..ROWS {
+    array::from_fn(|k| {
         let period = 24 + 6 * k as u32;
-        rows[k] = if k % 3 == 2 {
+        if k % 3 == 2 {
             RowNumbers::Helper {
                 period,
                 deadline: period,
@@ -39,12 +33,12 @@ fn rows() -> [RowNumbers; ROWS] {
                 short: 2,
                 long: 3,
             }
-        };
-    }
-    rows
+        }
+    })
 }
 
 // The next of a sequence of numbers that look random: a linear congruential generator.
+// Not the crate `generator`: the plain Rust that this is measured beside makes the same calls.
 fn next_random(random: u32) -> u32 {
     random.wrapping_mul(1_664_525).wrapping_add(1_013_904_223)
 }
@@ -62,38 +56,18 @@ fn mixed(sum: u64, answer: u32) -> u64 {
     sum.wrapping_mul(31).wrapping_add(u64::from(answer))
 }
 
-fn outcome_number(outcome: Outcome) -> u32 {
-    match outcome {
-        Outcome::Idle => 0,
-        Outcome::GoesOn => 1,
-        Outcome::Finished => 2,
-        Outcome::Cut => 3,
-    }
-}
-
 fn refusal_number(fault: SessionFault) -> u32 {
     100 + u32::from(fault.refusal.number())
 }
 
-// Gives the processor for one tick to the row that is due. A turn that was just begun is never refused.
-fn tick<B: Board, P: Pool>(session: &mut Session<'_, B, P>) -> Result<Outcome, SessionFault> {
-    let turn = session.begin()?;
-    match session.report(turn, false) {
-        Ok(outcome) => Ok(outcome),
-        Err(_refused) => unreachable(),
-    }
-}
-
 // An arrival of a random row and a tick; the sum with both answers.
 fn step<B: Board, P: Pool>(session: &mut Session<'_, B, P>, random: u32, sum: u64) -> u64 {
-    let arrived = match session.arrive(random >> 24 & 15, kind_by(random)) {
-        Ok(block) => block,
-        Err(fault) => refusal_number(fault),
-    };
-    let done = match tick(session) {
-        Ok(outcome) => outcome_number(outcome),
-        Err(fault) => refusal_number(fault),
-    };
+    let arrived = session
+        .arrive(random >> 24 & 15, kind_by(random))
+        .unwrap_or_else(refusal_number);
+    let done = session
+        .run_due()
+        .map_or_else(refusal_number, |outcome| outcome as u32);
     mixed(mixed(sum, arrived), done)
 }
 
@@ -115,33 +89,40 @@ fn tenths(nanos: u128, ticks: u32) -> u128 {
     nanos.saturating_mul(10) / (3 * u128::from(ticks.max(1)))
 }
 
-fn measure<B: Board + Drop, P: Pool + Drop>(
-    rt: &HostRuntime,
-    name: &str,
-    plan: &Plan,
-    board: B,
-    pool: P,
+// What is measured over each pair of a board and a pool; the ticks are those asked for.
+#[derive(Clone, Copy)]
+struct Measure<'a> {
+    rt: &'a HostRuntime,
+    plan: &'a Plan,
     ticks: Option<u32>,
-) -> io::Result<()> {
-    let start = Instant::now(rt)?;
-    let sum = run(plan, board, pool, ticks.unwrap_or(TICKS));
-    let nanos = start.elapsed(rt)?.as_nanos();
-    print!(rt; "{name}: checksum {sum}")?;
-    if let Some(ticks) = ticks {
-        let tenths = tenths(nanos, ticks);
-        print!(rt; ", {}.{} ns a call", tenths / 10, tenths % 10)?;
+}
+
+impl Measure<'_> {
+    fn over<B: Board + Drop, P: Pool + Drop>(
+        &self,
+        name: &str,
+        board: B,
+        pool: P,
+    ) -> io::Result<()> {
+        let start = Instant::now(self.rt)?;
+        let sum = run(self.plan, board, pool, self.ticks.unwrap_or(TICKS));
+        let nanos = start.elapsed(self.rt)?.as_nanos();
+        print!(self.rt; "{name}: checksum {sum}")?;
+        if let Some(ticks) = self.ticks {
+            let tenths = tenths(nanos, ticks);
+            print!(self.rt; ", {}.{} ns a call", tenths / 10, tenths % 10)?;
+        }
+        println!(self.rt; "")
     }
-    println!(rt; "")
 }
 
 // The number of ticks to time, if one is asked for.
 fn asked(rt: &HostRuntime) -> io::Result<Option<u32>> {
-    for word in env::args(rt)?.skip(1) {
-        if let Ok(ticks) = word.parse::<u32>() {
-            return Ok(Some(ticks));
-        }
-    }
-    Ok(None)
+    Ok(
+        env::args(rt)?
+            .skip(1)
+            .find_map(|word| word.parse::<u32>().ok()),
+    )
 }
 
 fn main(rt: HostRuntime) -> io::Result<()> {
@@ -150,36 +131,22 @@ fn main(rt: HostRuntime) -> io::Result<()> {
     if judge(&mut plan, &rows()).is_err() {
         return println!(rt; "the line-up is refused");
     }
-    measure(
-        &rt,
-        "word and bit map",
-        &plan,
-        WordBoard::new(),
-        BitmapPool::new(16),
+    // Each pair has its own types, and a closure takes one type alone: so each pair has its call.
+    let measure = Measure {
+        rt: &rt,
+        plan: &plan,
         ticks,
-    )?;
-    measure(
-        &rt,
+    };
+    measure.over("word and bit map", WordBoard::new(), BitmapPool::new(16))?;
+    measure.over(
         "word and free list",
-        &plan,
         WordBoard::new(),
         FreeListPool::new(16),
-        ticks,
     )?;
-    measure(
-        &rt,
-        "chain and bit map",
-        &plan,
-        ChainBoard::new(),
-        BitmapPool::new(16),
-        ticks,
-    )?;
-    measure(
-        &rt,
+    measure.over("chain and bit map", ChainBoard::new(), BitmapPool::new(16))?;
+    measure.over(
         "chain and free list",
-        &plan,
         ChainBoard::new(),
         FreeListPool::new(16),
-        ticks,
     )
 }

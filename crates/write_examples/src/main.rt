@@ -3,17 +3,19 @@
 
 use lineup::Writer;
 use row::{Fault, Row, RowNumbers};
-use std::alloc::Global;
-use std::io;
+use std::{array, io};
+
+// The text of a label, or none.
+type Label = Option<&'static str>;
 
 // A row of an example, with its label or none.
 #[derive(Clone, Copy)]
 struct Entry {
     numbers: RowNumbers,
-    label: &'static [u8],
+    label: Label,
 }
 
-fn track(period: u32, deadline: u32, short: u32, long: u32, label: &'static [u8]) -> Entry {
+fn track(period: u32, deadline: u32, short: u32, long: u32, label: Label) -> Entry {
     let numbers = RowNumbers::Track {
         period,
         deadline,
@@ -23,7 +25,7 @@ fn track(period: u32, deadline: u32, short: u32, long: u32, label: &'static [u8]
     Entry { numbers, label }
 }
 
-fn helper(period: u32, deadline: u32, short: u32, label: &'static [u8]) -> Entry {
+fn helper(period: u32, deadline: u32, short: u32, label: Label) -> Entry {
     let numbers = RowNumbers::Helper {
         period,
         deadline,
@@ -33,10 +35,10 @@ fn helper(period: u32, deadline: u32, short: u32, label: &'static [u8]) -> Entry
 }
 
 fn put_entry(writer: &mut Writer<'_>, entry: &Entry) -> Result<(), Fault> {
-    let row = Row::new(entry.numbers)?;
+    let row = Row::try_from(entry.numbers)?;
     writer.put(&row)?;
-    if !entry.label.is_empty() {
-        writer.label(entry.label)?;
+    if let Some(label) = entry.label {
+        writer.label(label.as_bytes())?;
     }
     Ok(())
 }
@@ -67,41 +69,39 @@ fn show(rt: &HostRuntime, name: &str, entries: &[Entry]) -> io::Result<()> {
 }
 
 // All 32 rows: two tracks, then a helper, and so on.
-fn full(heap: Global) -> io::Result<Vec<Entry>> {
-    let mut entries = Vec::new(heap);
-    for i in 0..32u32 {
+fn full() -> [Entry; 32] {
+    array::from_fn(|k| {
+        let i = k as u32;
         let period = 400 + 40 * i;
-        let entry = if i % 3 == 2 {
-            helper(period, period, 5 + i % 4, b"")
+        if i % 3 == 2 {
+            helper(period, period, 5 + i % 4, None)
         } else {
-            track(period, period, 4 + i % 3, 9 + i % 5, b"")
-        };
-        entries.push(entry)?;
-    }
-    Ok(entries)
+            track(period, period, 4 + i % 3, 9 + i % 5, None)
+        }
+    })
 }
 
 fn main(rt: HostRuntime) -> io::Result<()> {
     let worked = [
-        track(10, 10, 2, 4, b""),
-        helper(8, 8, 2, b""),
-        track(20, 20, 3, 5, b""),
+        track(10, 10, 2, 4, None),
+        helper(8, 8, 2, None),
+        track(20, 20, 3, 5, None),
     ];
     let interview = [
-        track(160, 160, 12, 30, b"host microphone"),
-        track(160, 160, 14, 36, b"guest, studio line"),
-        track(320, 320, 20, 60, b"guest, phone line"),
-        helper(320, 320, 16, b"level meters"),
-        helper(800, 800, 40, b"waveform"),
-        track(1600, 1600, 120, 260, b"write to disk"),
-        helper(1600, 1600, 60, b"clock display"),
+        track(160, 160, 12, 30, Some("host microphone")),
+        track(160, 160, 14, 36, Some("guest, studio line")),
+        track(320, 320, 20, 60, Some("guest, phone line")),
+        helper(320, 320, 16, Some("level meters")),
+        helper(800, 800, 40, Some("waveform")),
+        track(1600, 1600, 120, 260, Some("write to disk")),
+        helper(1600, 1600, 60, Some("clock display")),
     ];
     let refused = [
-        track(160, 160, 12, 30, b"host microphone"),
-        track(160, 80, 14, 60, b"guest, studio line"),
-        helper(320, 320, 16, b"level meters"),
+        track(160, 160, 12, 30, Some("host microphone")),
+        track(160, 80, 14, 60, Some("guest, studio line")),
+        helper(320, 320, 16, Some("level meters")),
     ];
-    show(&rt, "full.lineup", full(rt.alloc())?.as_slice())?;
+    show(&rt, "full.lineup", &full())?;
     show(&rt, "interview.lineup", &interview)?;
     show(&rt, "refused.lineup", &refused)?;
     show(&rt, "worked.lineup", &worked)
