@@ -48,6 +48,15 @@ unsafe extern "C" {
     ) -> usize;
 }
 
+/// The core's call itself: the listing, or the line that says why the line-up is refused, now stands
+/// at the front of `out`, and the answer is its length. It is 0 where that does not fit.
+#[inline]
+pub fn write_listing(lineup: &[u8], out: &mut [u8]) -> usize {
+    // SAFETY: both pairs of pointer and length come from live slices, and `out` is borrowed
+    // mutably, so they do not overlap. The core is proved to stay within them, and keeps neither.
+    unsafe { check_lineup(lineup.as_ptr(), lineup.len(), out.as_mut_ptr(), out.len()) }
+}
+
 /// Checks a line-up: `Ok` says that each bound of every row exists and is at most its deadline.
 ///
 /// The answer is the listing of these bounds, which now stands at the front of `out`: a line for
@@ -62,10 +71,7 @@ unsafe extern "C" {
 /// - [`CheckError::Mismatch`]: the answer is no listing at all, which the core is proved never to
 ///   give.
 pub fn check<'a>(lineup: &[u8], out: &'a mut [u8]) -> Result<&'a str, CheckError> {
-    // SAFETY: both pairs of pointer and length come from live slices, and `out` is borrowed
-    // mutably, so they do not overlap. The core is proved to stay within them, and keeps neither.
-    let length =
-        unsafe { check_lineup(lineup.as_ptr(), lineup.len(), out.as_mut_ptr(), out.len()) };
+    let length = write_listing(lineup, out);
     if length == 0 {
         return Err(CheckError::TooShort);
     }

@@ -11,7 +11,7 @@ use std::hint::black_box;
 use std::path::Path;
 use std::process::Command;
 use std::time::{Duration, Instant};
-use wigeongold::{CheckError, LISTING_MAX, check};
+use wigeongold::{CheckError, LISTING_MAX, check, write_listing};
 
 const REPETITIONS: usize = 51;
 
@@ -103,30 +103,14 @@ fn core_sessions(program: &Path) -> String {
     String::from_utf8(output.stdout).expect("the program prints text")
 }
 
-unsafe extern "C" {
-    fn check_lineup(
-        input: *const u8,
-        input_len: usize,
-        output: *mut u8,
-        output_len: usize,
-    ) -> usize;
-}
-
-/// The core's call itself, without the wrapper's look at the answer.
-fn core_check(lineup: &[u8], out: &mut [u8]) -> usize {
-    // SAFETY: as in `wigeongold::check`: both pairs of pointer and length come from live slices
-    // that do not overlap.
-    unsafe { check_lineup(lineup.as_ptr(), lineup.len(), out.as_mut_ptr(), out.len()) }
-}
-
 /// The seconds of a check by the core and by plain Rust, for each repetition.
 fn time_checks(lineup: &[u8]) -> Vec<(f64, f64)> {
     let (mut core, mut plain) = ([0; LISTING_MAX], [0; LISTING_MAX]);
-    let length = core_check(lineup, &mut core);
+    let length = write_listing(lineup, &mut core);
     assert_eq!(length, plain_check::check_lineup(lineup, &mut plain));
     assert!(core == plain, "the core and plain Rust differ");
 
-    let mut by_core = || core_check(black_box(lineup), &mut core);
+    let mut by_core = || write_listing(black_box(lineup), &mut core);
     let mut by_plain = || plain_check::check_lineup(black_box(lineup), &mut plain);
     let calls = calls_for(REPETITION, &mut by_core);
     (0..REPETITIONS).map(|_| (time(calls, &mut by_core), time(calls, &mut by_plain))).collect()
