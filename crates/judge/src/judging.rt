@@ -50,7 +50,7 @@ fn make_rows(given: &[RowNumbers]) -> Result<ArrayVec<Row, 32>, JudgeFault>
     Ok(rows)
 }
 
-// The bounds of each row, or the first row's failure.
+// The bounds of each row, or the first row's failure. By a `for` as above.
 fn bound_rows(rows: &[Row]) -> Result<ArrayVec<Bounds, 32>, JudgeFault>
     requires { length rows.now ≤ 32 }
     ensures { MatchResult result (λ bounds. Accepted rows.now bounds.items) (FailsFirst rows.now) }

@@ -11,6 +11,7 @@ pub(crate) trait Share {
     // what row r takes of a window of length t
     ghost taken: { Self → ℕ → Row → ℕ };
 
+    // The range of a window is asked for here and by `demand`: a type for it would wrap every number that a search tries.
     fn of(&self, row: &Row, window: u32) -> u64
         requires { window ≤ 524286 }
         ensures { result ≡ taken self.now window row.now };

@@ -10,7 +10,7 @@ use judge::{Bounds, LateBounds, Plan};
 use row::{Fault, Row};
 
 // The longest listing fits: 32 lines of at most 46 bytes. It lies in fixed memory, since a recorder must not fail for want of it.
-// Each piece that is pushed asks for its room, since memory is fixed and the call cannot fail.
+// Each piece that is pushed asks for its room, since memory is fixed and the call cannot fail; what `write!` writes might not fit.
 pub(crate) type Text = ArrayString<2048>;
 
 // A number behind a single space.
@@ -37,6 +37,7 @@ pub(crate) fn refused_line(fault: Fault) -> Text
     text
 }
 
+// Text with the blank before it, where the timeline of a rehearsal has a single character.
 fn letter(row: &Row) -> &'static str
     ensures { result.now ≡ spaced (letter_of row.now) }
 {

@@ -17,7 +17,7 @@ use std::str::from_utf8;
 // A script as far as it could be read, and why it was read no further, if so.
 #[derive(Drop)]
 pub struct Script<'a> {
-    // without rows until the line-up is read
+    // without rows until the line-up is read, and no option: the judge fills a plan that is there
     pub plan: Plan,
     pub opening: Option<Opening>,
     pub lines: Vec<Written<'a>>,

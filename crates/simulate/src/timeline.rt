@@ -21,6 +21,7 @@ pub(crate) fn show(out: &mut String, plan: &Plan, trace: &Trace) -> io::Result<(
     for (before, band) in columns.chunks(BAND).enumerate() {
         writeln!(out, "")?;
         show_ruler(out, before.saturating_mul(BAND), band.len())?;
+        // by place, since a plan gives its rows by place alone
         let rows = (0..plan.len()).filter_map(|row| plan.row(row));
         for (row, asked) in rows.enumerate() {
             show_row(out, row, letter(asked), band)?;
@@ -52,6 +53,7 @@ fn ruler_mark(column: usize) -> char {
     }
 }
 
+// A single character, where a listing has text with a blank before it.
 fn letter(asked: Row) -> char {
     if asked.is_track() { 'T' } else { 'H' }
 }

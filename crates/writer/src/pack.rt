@@ -26,6 +26,7 @@ fn pack_fields(bytes: &mut [u8], fields: &[(u32, u32)])
     }
 }
 
+// Each packer asks for the room that its own record takes.
 fn pack_row(bytes: &mut [u8], numbers: &RowNumbers)
     requires kept { keeps numbers.now ≡ true }
     requires within { size_of (row numbers.now) ≤ length bytes.old }
