@@ -6,7 +6,7 @@ use Rattle.reader.proofs.whole.read_rows.Given as goal
 
 abbrev pub invariant-loop-seen : goal.invariant-loop-seen
 invariant-loop-seen l =
-    (input_of l.reader ≡ l.input) × (length (rows_of l.rows) ≡ l.reader.place.rows)
+    (input_of l.reader ≡ l.input) × (l.rows.count ≡ l.reader.place.rows)
     × Collecting l.input (place_of l.reader) (rows_of l.rows)
 
 abbrev pub decreases-loop-seen : goal.decreases-loop-seen
