@@ -168,6 +168,16 @@ field_five bs a =
     ap (λ v. v / 2 ^ 24) (value_same _ digit 64 (λ i l. bit_from bs a i) ∙ value_split digit 40 24)
     ∙ shr_high (field bs (8 * a) 40) 24 _ (value_below (λ i. digit (40 + i)) 24 (λ i. bit_below bs (8 * a + (40 + i))))
 
+-- the bytes that hold a field, as one number, with what stands behind and before the field cut off
+pub field_from_bytes : (bs : List ℕ) (o w first past v : ℕ) → first ≡ o / 8 → past ≡ (o + w + 7) / 8
+    → v ≡ field bs (8 * first) (8 * (past - first)) → v / 2 ^ (8 * past - (o + w)) % 2 ^ w ≡ field bs o w
+field_from_bytes bs o w first past v f p e =
+    let lead : ℕ = o - 8 * first in
+    let tail : ℕ = 8 * past - (o + w) in
+    let bits : 8 * (past - first) ≡ (lead + w) + tail = omega arith in
+    let start : 8 * first + lead ≡ o = omega arith in
+    ap (λ k. k / 2 ^ tail % 2 ^ w) (e ∙ ap (field bs (8 * first)) bits) ∙ field_cut bs (8 * first) lead w tail ∙ ap (λ k. field bs k w) start
+
 -- a field cut out of five bytes
 pub field_from_five : (bs : List ℕ) (o w v : ℕ) → w ≤ 32 → v ≡ field bs (8 * (o / 8)) 40 → v / 2 ^ (40 - (o % 8 + w)) % 2 ^ w ≡ field bs o w
 field_from_five bs o w v h e =

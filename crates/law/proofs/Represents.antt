@@ -8,7 +8,10 @@ use Rattle.law.specs.declared.calls.Reply.TheVariants.{Done}
 use Rattle.law.specs.declared.calls.Call.{Call}
 use Rattle.law.specs.declared.calls.Outcome.TheVariants.{Idle}
 use Rattle.law.specs.declared.calls.TurnNumbers.{TurnNumbers}
-use Rattle.law.specs.History.{History, state_at, open_turn_at, logged_by}
+use Rattle.law.specs.declared.calls.Call.TheVariants.{Begin}
+use Rattle.law.specs.declared.calls.Step.{Step}
+use Rattle.law.specs.declared.calls.Step.TheVariants.{Given}
+use Rattle.law.specs.History.{History, state_at, open_turn_at, made, logged_by, logged_steps}
 use Rattle.law.specs.Represents.{Represents}
 use Rattle.law.specs.Rules.{Rules}
 use Rattle.law.specs.State.{State, after, change}
@@ -49,6 +52,11 @@ module _ {L : Type 0} (makes : Option TurnNumbers → L → Call) (past : L) (li
       let new : get_or (set log i a) i (Ok (Done Idle)) ≡ a = get_or-set_same log i a (Ok (Done Idle)) l in
       let rest = logged-kept log i a i (omega arith) in
       rw add-one (λ z. record { call = makes (open_turn_at (rest z)) (get_or lines i past); answer = new z } ∷ rest z)
+
+-- the same for a list of steps
+pub logged_steps_more : (steps : List Step) (log : List Answer) (i : ℕ) (a : Answer) → i < length log
+    → logged_steps steps (set log i a) (i + 1) ≡ record { call = made (open_turn_at (logged_steps steps log i)) (get_or steps i (Given Begin)); answer = a } ∷ logged_steps steps log i
+logged_steps_more steps log i a l = logged_more made (Given Begin) steps log i a l
 
 -- a table changed at place i, as the state has it: what f makes of the entry there, and the others as they were
 pub set_by : {A : Type 0} (f : ℕ → A → A) (xs : List A) (i : ℕ) (d : A) (q : ℕ) → i < length xs
