@@ -1,8 +1,11 @@
 // Reading a script: its line-up, its opening and its calls, up to the first line that is no command.
-ghost use Rattle.std.specs.Prelude.{[]};
+ghost use Rattle.std.specs.Prelude.{◌≡◌, List, [], map};
+ghost use Rattle.law.specs.Answer.{Answer};
 ghost use Rattle.law.specs.History.{made};
 ghost use Rattle.law.specs.declared.calls.Call.TheVariants.{Begin};
 ghost use Rattle.law.specs.declared.calls.Step.TheVariants.{Given};
+ghost use Rattle.session.specs.Replays.{replayed_by, replayed_steps};
+ghost use Rattle.simulate.specs.declared.reading.Written.{Written};
 
 use super::parsing::{Command, parse};
 use judge::Plan;
@@ -41,6 +44,12 @@ impl Line for Written<'_> {
         self.step.call(turn)
     }
 }
+
+// Of the lines of a script the contract of `replay` speaks of the list of their steps.
+pub fn steps_replayed()
+    ensures { (lines : List Written) (log : List Answer)
+        → replayed_by ⟦<Written<'static> as Line>⟧.makes ⟦<Written<'static> as Line>⟧.past lines log ≡ replayed_steps (map (λ line. line.step) lines) log }
+{}
 
 // What ends the output: the refusal of the line-up, or a line, by its number, that is no command.
 #[derive(Clone, Copy)]
