@@ -1,12 +1,20 @@
 // Whether the judge's answer and its plan are those of the search.
-use super::search::{Found, Verdict};
+use super::search::{Found, Refused, Verdict};
+use super::times::Times;
 use judge::{Bounds, JudgeFault, Plan};
-use row::{Fault, RowNumbers};
+use row::{Fault, Layer, RowNumbers};
+
+// By the search's own number, not by the core's equality of faults.
+fn same_refusal(fault: Fault, expected: &Refused) -> bool {
+    matches!(fault.layer, Layer::Judge)
+        && fault.refusal.number() == expected.number
+        && fault.place == expected.place
+}
 
 pub(crate) fn same_answer(answer: Result<(), JudgeFault>, verdict: &Verdict) -> bool {
     match (answer, verdict) {
         (Ok(()), Ok(_)) => true,
-        (Err(fault), Err(expected)) => Fault::from(fault) == *expected,
+        (Err(fault), Err(expected)) => same_refusal(Fault::from(fault), expected),
         _ => false,
     }
 }
@@ -22,7 +30,7 @@ fn same_bounds(bounds: Bounds, found: &Found) -> bool {
 fn same_place(plan: &Plan, place: usize, numbers: &RowNumbers, found: &Found) -> bool {
     let row = plan.row(place);
     let bounds = plan.bounds(place);
-    row.is_some_and(|row| RowNumbers::from(row) == *numbers)
+    row.is_some_and(|row| Times::from(RowNumbers::from(row)) == Times::from(*numbers))
         && bounds.is_some_and(|bounds| same_bounds(bounds, found))
 }
 

@@ -1,7 +1,7 @@
 // The judge's answer by plain search: every t and every instant is tried in turn.
 use super::demands::{Above, Demand};
 use super::times::Times;
-use row::{Fault, Layer, Refusal, RowNumbers};
+use row::RowNumbers;
 use std::alloc::{AllocError, Global};
 
 // A greatest value and the first instant that attains it.
@@ -23,8 +23,15 @@ pub struct Found {
     pub late: Option<Late>,
 }
 
+// A refusal by its number in docs/REFUSALS.md, written out here, so that nothing is shared with the core's own table.
+#[derive(Clone, Copy)]
+pub struct Refused {
+    pub number: u8,
+    pub place: u64,
+}
+
 // The bounds of every row, or why the list is refused.
-pub type Verdict = Result<Vec<Found>, Fault>;
+pub type Verdict = Result<Vec<Found>, Refused>;
 
 // The greatest value over the instants below `end`, if there is one at each.
 fn most_of<F: Fn(usize) -> Option<u64>>(end: u64, value: F) -> Option<Greatest>
@@ -61,18 +68,18 @@ fn long_bound(above: &[Above], long: u32) -> Option<Greatest> {
     })
 }
 
-// A bound that exists and is at most the deadline; otherwise the refusal.
-fn kept(bound: Option<Greatest>, deadline: u32, refusal: Refusal) -> Result<Greatest, Refusal> {
+// A bound that exists and is at most the deadline; otherwise the number of the refusal.
+fn kept(bound: Option<Greatest>, deadline: u32, number: u8) -> Result<Greatest, u8> {
     bound
         .filter(|found| found.value <= deadline as u64)
-        .ok_or(refusal)
+        .ok_or(number)
 }
 
-fn late_bounds(above: &[Above], times: &Times, long: u32, normal: u64) -> Result<Late, Refusal> {
+fn late_bounds(above: &[Above], times: &Times, long: u32, normal: u64) -> Result<Late, u8> {
     let mixed = mixed_bound(above, times.short, normal);
-    let mixed = kept(mixed, times.deadline, Refusal::MixedBound)?;
+    let mixed = kept(mixed, times.deadline, 11)?;
     let long = long_bound(above, long);
-    let long = kept(long, times.deadline, Refusal::LongBound)?;
+    let long = kept(long, times.deadline, 12)?;
     Ok(Late {
         mixed: at_least(mixed, normal),
         long,
@@ -91,8 +98,8 @@ fn at_least(mixed: Greatest, normal: u64) -> Greatest {
     }
 }
 
-// The bounds of one row, or the refusal.
-fn bounds(above: &[Above], numbers: &RowNumbers) -> Result<Found, Refusal> {
+// The bounds of one row, or the number of the refusal.
+fn bounds(above: &[Above], numbers: &RowNumbers) -> Result<Found, u8> {
     let times = Times::from(*numbers);
     let demand = Demand::Normal {
         budget: times.short as u64,
@@ -100,7 +107,7 @@ fn bounds(above: &[Above], numbers: &RowNumbers) -> Result<Found, Refusal> {
     let normal = demand
         .least(above, 1)
         .filter(|normal| *normal <= times.deadline as u64)
-        .ok_or(Refusal::NormalBound)?;
+        .ok_or(10)?;
     let late = match times.long {
         Some(long) => Some(late_bounds(above, &times, long, normal)?),
         None => None,
@@ -108,24 +115,25 @@ fn bounds(above: &[Above], numbers: &RowNumbers) -> Result<Found, Refusal> {
     Ok(Found { normal, late })
 }
 
-fn fault(refusal: Refusal, place: u64) -> Fault {
-    Fault {
-        refusal,
-        layer: Layer::Judge,
-        place,
-    }
-}
-
 // Why the list as a whole is refused.
-fn refused_whole(given: &[RowNumbers]) -> Option<Fault> {
+fn refused_whole(given: &[RowNumbers]) -> Option<Refused> {
     match given.len() {
-        0 => Some(fault(Refusal::WrongCount, 0)),
+        0 => Some(Refused {
+            number: 7,
+            place: 0,
+        }),
         1..=32 => {
             let mut times = given.iter().copied().map(Times::from);
             let outside = times.any(|times| !times.keep_limits());
-            outside.then_some(fault(Refusal::OutsideLimits, 0))
+            outside.then_some(Refused {
+                number: 5,
+                place: 0,
+            })
         }
-        count => Some(fault(Refusal::TooManyRows, count as u64)),
+        count => Some(Refused {
+            number: 6,
+            place: count as u64,
+        }),
     }
 }
 
@@ -139,7 +147,10 @@ pub(crate) fn judge_by_search(heap: Global, given: &[RowNumbers]) -> Result<Verd
     for numbers in given {
         match bounds(above.as_slice(), numbers) {
             Ok(found) => all.push(found)?,
-            Err(refusal) => return Ok(Err(fault(refusal, above.len() as u64))),
+            Err(number) => {
+                let place = above.len() as u64;
+                return Ok(Err(Refused { number, place }));
+            }
         }
         above.push(Above::new(heap, numbers)?)?;
     }

@@ -1,5 +1,5 @@
 // What was seen, and how it is printed.
-use super::search::{Found, Verdict};
+use super::search::{Found, Refused, Verdict};
 use row::RowNumbers;
 use std::{fmt, io};
 use tallies::{Agreement, Refusals, count};
@@ -45,7 +45,7 @@ impl Tally {
                 }
                 self.most_rows = self.most_rows.max(all.len());
             }
-            Err(fault) => self.refusals.note(fault.refusal.number()),
+            Err(refused) => self.refusals.note(refused.number),
         }
     }
 }
@@ -110,9 +110,7 @@ pub(crate) fn print_disagreement(
         print_row(rt, numbers)?;
     }
     match verdict {
-        Err(fault) => {
-            let number = fault.refusal.number();
-            let place = fault.place;
+        Err(Refused { number, place }) => {
             println!(rt; "  the search refuses by {number} at {place}")
         }
         Ok(all) => {

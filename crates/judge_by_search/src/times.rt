@@ -1,8 +1,8 @@
 // The times of a row, whichever kind it is of.
 use row::RowNumbers;
 
-// Only a track has a long budget.
-#[derive(Clone, Copy)]
+// Only a track has a long budget. Rows are compared in this shape, not by the core's own equality.
+#[derive(Clone, Copy, PartialEq, Eq)]
 pub struct Times {
     pub period: u32,
     pub deadline: u32,

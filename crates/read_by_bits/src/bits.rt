@@ -1,5 +1,4 @@
 // Bytes as a list of bits, the most significant of each byte first, and back.
-use row::Refusal;
 use std::alloc::{AllocError, Global};
 
 const MASKS: [u8; 8] = [128, 64, 32, 16, 8, 4, 2, 1];
@@ -20,10 +19,11 @@ impl Bits {
     }
 
     pub(crate) fn of(heap: Global, bytes: &[u8]) -> Result<Bits, AllocError> {
-        let bits = bytes
-            .iter()
-            .flat_map(|byte| MASKS.map(|mask| *byte & mask != 0))
-            .collect(heap)?;
+        let mut bits = Vec::new(heap);
+        // eight at a time: bit by bit through a `flat_map` takes twice as long
+        for byte in bytes {
+            bits.extend_from_slice(&MASKS.map(|mask| *byte & mask != 0))?;
+        }
         Ok(Bits { bits, at: 0 })
     }
 
@@ -36,10 +36,10 @@ impl Bits {
         self.at >= self.bits.len()
     }
 
-    // The number that the next bits spell; the input ends where they are too few.
-    pub(crate) fn field(&mut self, width: u32) -> Result<u32, Refusal> {
+    // The number that the next bits spell; refused by 2 where they are too few.
+    pub(crate) fn field(&mut self, width: u32) -> Result<u32, u8> {
         let past = self.at.saturating_add(width as usize);
-        let part = self.bits.get(self.at..past).ok_or(Refusal::InputEnds)?;
+        let part = self.bits.get(self.at..past).ok_or(2)?;
         let value = part.iter().fold(0u32, |value, one| {
             value.wrapping_mul(2).wrapping_add(u32::from(*one))
         });

@@ -1,41 +1,52 @@
 // Line-ups from their bits: every field is folded bit by bit, and the records are kept.
+// In types and numbers of this program alone, so that nothing is shared with the reader.
 use super::bits::Bits;
-use lineup::{ReadFault, Record};
-use row::{Refusal, RowNumbers};
 use std::alloc::Global;
 use std::io;
+
+// The times of a row. Only a track has a long budget.
+#[derive(Clone, Copy, PartialEq, Eq)]
+pub struct Times {
+    pub period: u32,
+    pub deadline: u32,
+    pub short: u32,
+    pub long: Option<u32>,
+}
+
+// A record as it was decoded. A label is a part of the input, with its place there.
+#[derive(Clone, Copy, PartialEq, Eq)]
+pub enum Item<'a> {
+    Row(Times),
+    Label { offset: usize, bytes: &'a [u8] },
+    End,
+}
+
+// A refusal by its number in docs/LINEUP.md, and the offset of its record.
+#[derive(Clone, Copy, PartialEq, Eq)]
+pub struct Refused {
+    pub number: u8,
+    pub offset: usize,
+}
 
 // The records up to the end or up to a refusal.
 #[derive(Drop)]
 pub struct Decoded<'a> {
-    pub items: Vec<Record<'a>>,
-    pub refused: Option<ReadFault>,
+    pub items: Vec<Item<'a>>,
+    pub refused: Option<Refused>,
 }
 
-fn is_row(item: &Record<'_>) -> bool {
-    matches!(item, Record::Row(_))
+fn is_row(item: &Item<'_>) -> bool {
+    matches!(item, Item::Row(_))
 }
 
-fn rows_among(items: &[Record<'_>]) -> usize {
+fn rows_among(items: &[Item<'_>]) -> usize {
     items.iter().filter(|item| is_row(item)).count()
 }
 
 // A helper's long budget is its only one.
-fn in_limits(numbers: &RowNumbers) -> bool {
-    let (period, deadline, short, long) = match *numbers {
-        RowNumbers::Track {
-            period,
-            deadline,
-            short,
-            long,
-        } => (period, deadline, short, long),
-        RowNumbers::Helper {
-            period,
-            deadline,
-            short,
-        } => (period, deadline, short, short),
-    };
-    [1, short, long, deadline, period].is_sorted()
+fn in_limits(times: &Times) -> bool {
+    let long = times.long.unwrap_or(times.short);
+    [1, times.short, long, times.deadline, times.period].is_sorted()
 }
 
 // A line-up that is decoded: its bytes, the bits that are left of them, and the records so far.
@@ -43,46 +54,47 @@ fn in_limits(numbers: &RowNumbers) -> bool {
 struct Decoder<'a> {
     input: &'a [u8],
     bits: Bits,
-    items: Vec<Record<'a>>,
+    items: Vec<Item<'a>>,
 }
 
 impl<'a> Decoder<'a> {
-    fn time(&mut self) -> Result<u32, Refusal> {
+    fn time(&mut self) -> Result<u32, u8> {
         self.bits.field(18)
     }
 
-    fn track_numbers(&mut self) -> Result<RowNumbers, Refusal> {
-        Ok(RowNumbers::Track {
+    fn track_times(&mut self) -> Result<Times, u8> {
+        Ok(Times {
             period: self.time()?,
             deadline: self.time()?,
             short: self.time()?,
-            long: self.time()?,
+            long: Some(self.time()?),
         })
     }
 
-    fn helper_numbers(&mut self) -> Result<RowNumbers, Refusal> {
-        Ok(RowNumbers::Helper {
+    fn helper_times(&mut self) -> Result<Times, u8> {
+        Ok(Times {
             period: self.time()?,
             deadline: self.time()?,
             short: self.time()?,
+            long: None,
         })
     }
 
     // The rest of a row: so many bits of filling.
-    fn row_item(&mut self, numbers: RowNumbers, filling: u32) -> Result<Record<'a>, Refusal> {
+    fn row_item(&mut self, times: Times, filling: u32) -> Result<Item<'a>, u8> {
         if self.bits.field(filling)? > 0 {
-            return Err(Refusal::FillingNotZero);
+            return Err(3);
         }
-        if !in_limits(&numbers) {
-            return Err(Refusal::OutsideLimits);
+        if !in_limits(&times) {
+            return Err(5);
         }
         if rows_among(self.items.as_slice()) == 32 {
-            return Err(Refusal::TooManyRows);
+            return Err(6);
         }
-        Ok(Record::Row(numbers))
+        Ok(Item::Row(times))
     }
 
-    fn label_item(&mut self) -> Result<Record<'a>, Refusal> {
+    fn label_item(&mut self) -> Result<Item<'a>, u8> {
         let length = self.bits.field(5)?;
         let offset = self.bits.offset();
         // Every byte is read, also behind one that is not printable.
@@ -93,36 +105,36 @@ impl<'a> Decoder<'a> {
         }
         if length > 0 && printable && self.items.last().is_some_and(is_row) {
             let bytes = self.input.get(offset..self.bits.offset()).unwrap_or(&[]);
-            Ok(Record::Label { offset, bytes })
+            Ok(Item::Label { offset, bytes })
         } else {
-            Err(Refusal::BadLabel)
+            Err(4)
         }
     }
 
-    fn end_item(&mut self) -> Result<Record<'a>, Refusal> {
+    fn end_item(&mut self) -> Result<Item<'a>, u8> {
         let count = self.bits.field(5)? as usize;
         if count.saturating_add(1) != rows_among(self.items.as_slice()) {
-            return Err(Refusal::WrongCount);
+            return Err(7);
         }
         if !self.bits.at_end() {
-            return Err(Refusal::AfterEnd);
+            return Err(8);
         }
-        Ok(Record::End)
+        Ok(Item::End)
     }
 
-    fn next_item(&mut self) -> Result<Record<'a>, Refusal> {
+    fn next_item(&mut self) -> Result<Item<'a>, u8> {
         match self.bits.field(3)? {
             0 => {
-                let numbers = self.helper_numbers()?;
-                self.row_item(numbers, 7)
+                let times = self.helper_times()?;
+                self.row_item(times, 7)
             }
             1 => {
-                let numbers = self.track_numbers()?;
-                self.row_item(numbers, 5)
+                let times = self.track_times()?;
+                self.row_item(times, 5)
             }
             2 => self.label_item(),
             3 => self.end_item(),
-            _ => Err(Refusal::UnknownKind),
+            _ => Err(1),
         }
     }
 }
@@ -139,12 +151,12 @@ pub(crate) fn decode(heap: Global, input: &[u8]) -> io::Result<Decoded<'_>> {
         let offset = decoder.bits.offset();
         match decoder.next_item() {
             Ok(item) => decoder.items.push(item)?,
-            Err(refusal) => {
-                refused = Some(ReadFault { refusal, offset });
+            Err(number) => {
+                refused = Some(Refused { number, offset });
                 break;
             }
         }
-        if matches!(decoder.items.last(), Some(Record::End)) {
+        if matches!(decoder.items.last(), Some(Item::End)) {
             break;
         }
     }

@@ -1,6 +1,5 @@
 // What was seen, and how it is printed.
-use super::decode::Decoded;
-use lineup::Record;
+use super::decode::{Decoded, Item, Refused};
 use std::{fmt, io};
 use tallies::{Agreement, Refusals, count};
 
@@ -18,13 +17,13 @@ impl Tally {
         self.agreement.note(agreed);
         for item in decoded.items.iter() {
             match item {
-                Record::Row(_) => count(&mut self.rows),
-                Record::Label { .. } => count(&mut self.labels),
-                Record::End => count(&mut self.whole),
+                Item::Row(_) => count(&mut self.rows),
+                Item::Label { .. } => count(&mut self.labels),
+                Item::End => count(&mut self.whole),
             }
         }
-        if let Some(fault) = decoded.refused {
-            self.refusals.note(fault.refusal.number());
+        if let Some(refused) = decoded.refused {
+            self.refusals.note(refused.number);
         }
     }
 }
@@ -51,9 +50,7 @@ pub(crate) fn print_disagreement(
     let items = decoded.items.len();
     match decoded.refused {
         None => println!(rt; ": {items} records"),
-        Some(fault) => {
-            let number = fault.refusal.number();
-            let offset = fault.offset;
+        Some(Refused { number, offset }) => {
             println!(rt; ": {items} records, then refused by {number} at {offset}")
         }
     }

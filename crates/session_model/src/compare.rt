@@ -1,12 +1,43 @@
-// Follows a session's answers with the model.
+// Follows a session's answers with the model. What is expected is compared here, not by the core's own equality.
 use super::history::Event;
-use super::model::Model;
-use super::standing::Standing;
+use super::model::{Model, told};
+use super::standing::{Refused, Standing};
 use board::Board;
-use law::{Answer, Call, Reply};
+use law::{Answer, Call, Outcome, Reply, TurnNumbers};
 use pool::Pool;
-use row::Kind;
+use row::{Fault, Kind, Layer};
 use std::alloc::AllocError;
+
+fn same_outcome(one: Outcome, other: Outcome) -> bool {
+    match one {
+        Outcome::Idle => matches!(other, Outcome::Idle),
+        Outcome::GoesOn => matches!(other, Outcome::GoesOn),
+        Outcome::Finished => matches!(other, Outcome::Finished),
+        Outcome::Cut => matches!(other, Outcome::Cut),
+    }
+}
+
+fn same_refusal(refused: Refused, fault: Fault) -> bool {
+    matches!(fault.layer, Layer::Session)
+        && fault.refusal.number() == refused.number
+        && fault.place == u64::from(refused.place)
+}
+
+// What the model replies to a call that it accepts. An arrival has none, since it may get any free block.
+#[derive(Clone, Copy)]
+enum Expected {
+    Turn(TurnNumbers),
+    Done(Outcome),
+}
+
+fn same_answer(expected: Result<Expected, Refused>, answer: Answer) -> bool {
+    match (expected, answer) {
+        (Ok(Expected::Turn(turn)), Ok(Reply::Turn(other))) => told(turn) == told(other),
+        (Ok(Expected::Done(outcome)), Ok(Reply::Done(other))) => same_outcome(outcome, other),
+        (Err(refused), Err(fault)) => same_refusal(refused, fault),
+        _ => false,
+    }
+}
 
 impl Model<'_> {
     // An arrival may get any block that is free, and the model follows it.
@@ -17,7 +48,7 @@ impl Model<'_> {
                 self.events.push(Event::Admitted { row, kind, block })?;
                 Ok(standing.is_free(block))
             }
-            (Err(fault), Err(other)) => Ok(fault == other),
+            (Err(refused), Err(fault)) => Ok(same_refusal(refused, fault)),
             _ => Ok(false),
         }
     }
@@ -27,7 +58,7 @@ impl Model<'_> {
         if let Ok(turn) = begun {
             self.events.push(Event::Begun(turn))?;
         }
-        Ok(begun.map(Reply::Turn) == answer)
+        Ok(same_answer(begun.map(Expected::Turn), answer))
     }
 
     // Whether the answer is the model's, which goes on as the rules say.
@@ -37,7 +68,7 @@ impl Model<'_> {
             Call::Begin => self.follow_begin(answer),
             Call::Report { turn, finished } => {
                 let outcome = self.report(turn, finished)?;
-                Ok(outcome.map(Reply::Done) == answer)
+                Ok(same_answer(outcome.map(Expected::Done), answer))
             }
         }
     }

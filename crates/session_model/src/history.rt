@@ -1,5 +1,4 @@
 // The history of a session's accepted calls, and the jobs that it tells of.
-use judge::Plan;
 use law::TurnNumbers;
 use row::Kind;
 use std::alloc::{AllocError, Global};
@@ -11,6 +10,41 @@ pub enum Event {
     Begun(TurnNumbers),
     // a report of the turn for this row, or of an idle turn
     Reported { row: Option<u32>, finished: bool },
+}
+
+// How many ticks a job may have, and how long after its arrival it may end.
+#[derive(Clone, Copy)]
+pub struct JobTerms {
+    pub budget: u32,
+    pub bound: u32,
+}
+
+// What is known of a row of the plan: the model's own table, so that it asks the core nothing.
+#[derive(Clone, Copy)]
+pub struct Terms {
+    pub period: u32,
+    pub normal: JobTerms,
+    // only a track has abnormal jobs
+    pub abnormal: Option<JobTerms>,
+}
+
+impl Terms {
+    // The terms of the row's jobs of this kind. Those of a helper are normal.
+    pub(crate) fn of_kind(&self, kind: Kind) -> JobTerms {
+        match self.abnormal {
+            Some(abnormal) if is_abnormal(kind) => abnormal,
+            _ => self.normal,
+        }
+    }
+}
+
+pub(crate) fn row_count(terms: &[Terms]) -> u32 {
+    u32::try_from(terms.len()).unwrap_or(u32::MAX)
+}
+
+// By a pattern, not by the core's own equality.
+pub(crate) fn is_abnormal(kind: Kind) -> bool {
+    matches!(kind, Kind::Abnormal)
 }
 
 // An admitted arrival. It is unended once `from` events have come, and no more once more than `end.until` have.
@@ -37,23 +71,25 @@ impl Admission {
         self.from <= events && self.end.is_none_or(|end| events <= end.until)
     }
 
-    // Where the job ends that may have so many ticks.
+    // Where the job ends that may have so many ticks. The clock is counted in the same walk.
     fn end_among(&self, events: &[Event], budget: u32) -> Option<End> {
+        let mut clock = self.arrival;
         let mut ticks: u32 = 0;
         let behind = events.get(self.from..)?;
         let last = behind.iter().position(|event| match *event {
-            Event::Reported { row, finished } if row == Some(self.row) => {
-                ticks = ticks.saturating_add(1);
-                finished || ticks == budget
+            Event::Reported { row, finished } => {
+                clock = clock.saturating_add(1);
+                if row == Some(self.row) {
+                    ticks = ticks.saturating_add(1);
+                    finished || ticks == budget
+                } else {
+                    false
+                }
             }
             _ => false,
         })?;
         let until = self.from.saturating_add(last);
-        let passed = clock_of(events.get(self.from..=until)?);
-        Some(End {
-            until,
-            clock: self.arrival.saturating_add(passed),
-        })
+        Some(End { until, clock })
     }
 }
 
@@ -75,17 +111,15 @@ pub(crate) fn open_turn(events: &[Event]) -> Option<TurnNumbers> {
 }
 
 // How many ticks a job of this kind may have; one of a row that is not in the plan may have none.
-fn budget(plan: &Plan, row: u32, kind: Kind) -> u32 {
-    plan.row(row as usize).map_or(0, |asked| match kind {
-        Kind::Normal => asked.short(),
-        Kind::Abnormal => asked.long(),
-    })
+fn budget(terms: &[Terms], row: u32, kind: Kind) -> u32 {
+    let asked = terms.get(row as usize);
+    asked.map_or(0, |asked| asked.of_kind(kind).budget)
 }
 
 // Every job that the events tell of, in the order of arrival.
 pub(crate) fn admissions(
     heap: Global,
-    plan: &Plan,
+    terms: &[Terms],
     events: &[Event],
 ) -> Result<Vec<Admission>, AllocError> {
     let mut all = Vec::new(heap);
@@ -103,7 +137,7 @@ pub(crate) fn admissions(
                     from: place.saturating_add(1),
                     end: None,
                 };
-                job.end = job.end_among(events, budget(plan, row, kind));
+                job.end = job.end_among(events, budget(terms, row, kind));
                 all.push(job)?;
             }
         }

@@ -12,10 +12,11 @@ mod steps;
 mod tally;
 
 use generator::Generator;
+use history::{Terms, row_count};
 use judge::{Plan, judge};
 use model::Setting;
 use row::RowNumbers;
-use runs::{Trial, make_blocks, make_number};
+use runs::{Trial, make_blocks, make_number, terms_of};
 use std::io;
 use tally::{Latest, Tally, print_latest};
 
@@ -39,22 +40,29 @@ const fn helper(period: u32, short: u32) -> RowNumbers {
     }
 }
 
+// The sessions on one plan, of whose rows the model knows these terms.
+fn run_lists(trial: &mut Trial<'_>, name: &str, plan: &Plan, terms: &[Terms]) -> io::Result<()> {
+    trial.latest = vec![in trial.rt.alloc(); Latest::default(); terms.len()]?;
+    for _ in 0..LISTS {
+        let setting = Setting {
+            name,
+            plan,
+            terms,
+            number: make_number(&mut trial.draws),
+            blocks: make_blocks(&mut trial.draws, row_count(terms)),
+        };
+        trial.run_pairs(setting)?;
+    }
+    print_latest(trial.rt, name, terms, trial.latest.as_slice())
+}
+
 fn run_lineup(trial: &mut Trial<'_>, name: &str, rows: &[RowNumbers]) -> io::Result<()> {
     let mut plan = Plan::new();
     if judge(&mut plan, rows).is_err() {
         return println!(trial.rt; "{name} is refused");
     }
-    trial.latest = vec![in trial.rt.alloc(); Latest::default(); plan.len()]?;
-    for _ in 0..LISTS {
-        let setting = Setting {
-            name,
-            plan: &plan,
-            number: make_number(&mut trial.draws),
-            blocks: make_blocks(&mut trial.draws, plan.len() as u32),
-        };
-        trial.run_pairs(setting)?;
-    }
-    print_latest(trial.rt, name, &plan, trial.latest.as_slice())
+    let terms = terms_of(trial.rt.alloc(), &plan)?;
+    run_lists(trial, name, &plan, terms.as_slice())
 }
 
 fn main(rt: HostRuntime) -> io::Result<()> {

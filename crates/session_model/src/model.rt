@@ -1,16 +1,16 @@
 // A plain model of a session: the events so far, from which everything is reckoned again at each call.
-use super::history::{Event, admissions, clock_of, open_turn};
-use super::standing::{Standing, refused};
+use super::history::{Event, Terms, admissions, clock_of, open_turn};
+use super::standing::{Refused, Standing};
 use judge::Plan;
 use law::{Call, Outcome, Step, TurnNumbers, Work};
-use row::{Fault, Refusal};
 use std::alloc::{AllocError, Global};
 
-// How a session is opened.
+// How a session is opened: on the plan, of which the model knows the terms.
 #[derive(Clone, Copy)]
 pub struct Setting<'a> {
     pub name: &'a str,
     pub plan: &'a Plan,
+    pub terms: &'a [Terms],
     pub number: u32,
     pub blocks: u32,
 }
@@ -22,6 +22,16 @@ pub struct Model<'a> {
     pub events: Vec<Event>,
 }
 
+// All that a turn tells: number, clock, row and block. Turns are compared by it, not by the core's own equality.
+pub(crate) fn told(turn: TurnNumbers) -> [Option<u32>; 4] {
+    [
+        Some(turn.number),
+        Some(turn.clock),
+        turn.work.map(|work| work.row),
+        turn.work.map(|work| work.block),
+    ]
+}
+
 impl<'a> Model<'a> {
     // What the events come to.
     pub(crate) fn standing(&self) -> Result<Standing<'a>, AllocError> {
@@ -31,7 +41,7 @@ impl<'a> Model<'a> {
             events: events.len(),
             clock: clock_of(events),
             open: open_turn(events),
-            jobs: admissions(self.heap, self.setting.plan, events)?,
+            jobs: admissions(self.heap, self.setting.terms, events)?,
         })
     }
 
@@ -68,19 +78,29 @@ impl<'a> Model<'a> {
         }
     }
 
-    // An accepted report is added to the history.
+    // Refuses a report of another turn than the open one, and of an idle turn as finished.
+    fn reportable(&self, turn: TurnNumbers, finished: bool) -> Result<(), Refused> {
+        let events = self.events.as_slice();
+        let number = if open_turn(events).map(told) != Some(told(turn)) {
+            21
+        } else if finished && turn.work.is_none() {
+            22
+        } else {
+            return Ok(());
+        };
+        let place = clock_of(events);
+        Err(Refused { number, place })
+    }
+
+    // An accepted report is added to the history. A refused one needs no list of the jobs.
     pub(crate) fn report(
         &mut self,
         turn: TurnNumbers,
         finished: bool,
-    ) -> Result<Result<Outcome, Fault>, AllocError> {
-        let standing = self.standing()?;
-        if standing.open != Some(turn) {
-            return Ok(Err(refused(Refusal::NotOpenTurn, standing.clock)));
+    ) -> Result<Result<Outcome, Refused>, AllocError> {
+        match self.reportable(turn, finished) {
+            Ok(()) => Ok(Ok(self.accept(turn.work, finished)?)),
+            Err(refused) => Ok(Err(refused)),
         }
-        if finished && turn.work.is_none() {
-            return Ok(Err(refused(Refusal::IdleFinished, standing.clock)));
-        }
-        Ok(Ok(self.accept(turn.work, finished)?))
     }
 }

@@ -1,14 +1,17 @@
 // Sessions over a board and a pool, each followed by the model.
 use super::forged::forge;
+use super::history::{JobTerms, Terms, row_count};
 use super::model::{Model, Setting};
 use super::prints::print_calls;
 use super::steps::make_steps;
 use super::tally::{Latest, Tally};
 use board::{Board, ChainBoard, WordBoard};
 use generator::Generator;
+use judge::Plan;
 use law::{Answer, Outcome, Reply, Step};
 use pool::{BitmapPool, FreeListPool, Pool};
 use session::replay;
+use std::alloc::{AllocError, Global};
 use std::io;
 use tallies::count;
 
@@ -19,6 +22,29 @@ pub struct Trial<'a> {
     pub draws: Generator,
     pub tally: Tally,
     pub latest: Vec<Latest>,
+}
+
+fn terms_at(plan: &Plan, place: usize) -> Option<Terms> {
+    let row = plan.row(place)?;
+    let bounds = plan.bounds(place)?;
+    Some(Terms {
+        period: row.period(),
+        normal: JobTerms {
+            budget: row.short(),
+            bound: bounds.late.map_or(bounds.normal, |late| late.mixed),
+        },
+        abnormal: bounds.late.map(|late| JobTerms {
+            budget: row.long(),
+            bound: late.long,
+        }),
+    })
+}
+
+// The rows of a plan with their bounds, taken once for all sessions on it.
+pub(crate) fn terms_of(heap: Global, plan: &Plan) -> Result<Vec<Terms>, AllocError> {
+    (0..plan.len())
+        .filter_map(|place| terms_at(plan, place))
+        .collect(heap)
 }
 
 // A session number, the least and the greatest among them.
@@ -56,7 +82,7 @@ impl Trial<'_> {
         steps: &[Step],
         log: &[Answer],
     ) -> io::Result<bool> {
-        let enough = model.setting.blocks as usize >= model.setting.plan.len();
+        let enough = model.setting.blocks >= row_count(model.setting.terms);
         for (place, (step, answer)) in steps.iter().zip(log.iter()).enumerate() {
             let call = model.called(*step);
             self.tally.note(*answer, enough);
@@ -122,7 +148,7 @@ impl Trial<'_> {
 
     // One list over the four pairs of a board and a pool.
     pub(crate) fn run_pairs(&mut self, setting: Setting<'_>) -> io::Result<()> {
-        let steps = make_steps(self.rt.alloc(), &mut self.draws, setting.plan)?;
+        let steps = make_steps(self.rt.alloc(), &mut self.draws, setting.terms)?;
         let steps = steps.as_slice();
         let bitmap = || BitmapPool::new(setting.blocks);
         let free_list = || FreeListPool::new(setting.blocks);

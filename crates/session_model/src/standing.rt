@@ -1,8 +1,8 @@
 // Where a session stands, by its events so far, and what arrivals and turns it then admits.
-use super::history::Admission;
+use super::history::{Admission, is_abnormal};
 use super::model::Setting;
 use law::{TurnNumbers, Work};
-use row::{Fault, Kind, Layer, Refusal};
+use row::Kind;
 
 const LAST_CLOCK: u32 = 4_000_000_000;
 
@@ -16,12 +16,11 @@ pub struct Standing<'a> {
     pub jobs: Vec<Admission>,
 }
 
-pub(crate) fn refused(refusal: Refusal, place: u32) -> Fault {
-    Fault {
-        refusal,
-        layer: Layer::Session,
-        place: u64::from(place),
-    }
+// A refusal by its number in docs/REFUSALS.md, written out here, so that nothing is shared with the core's own table.
+#[derive(Clone, Copy)]
+pub struct Refused {
+    pub number: u8,
+    pub place: u32,
 }
 
 impl Standing<'_> {
@@ -53,7 +52,7 @@ impl Standing<'_> {
             .take_while(|point| jobs.iter().any(|job| job.unended_at(*point)))
             .any(|point| {
                 let mut jobs = jobs.iter();
-                jobs.any(|job| job.from == point && job.kind == Kind::Abnormal)
+                jobs.any(|job| job.from == point && is_abnormal(job.kind))
             })
     }
 
@@ -64,35 +63,37 @@ impl Standing<'_> {
     }
 
     // Refuses where neither an arrival nor a turn may come.
-    fn ready(&self) -> Result<(), Fault> {
+    fn ready(&self) -> Result<(), Refused> {
+        let place = self.clock;
         if self.open.is_some() {
-            Err(refused(Refusal::TurnOpen, self.clock))
-        } else if self.clock >= LAST_CLOCK {
-            Err(refused(Refusal::ClockFull, self.clock))
+            Err(Refused { number: 13, place })
+        } else if place >= LAST_CLOCK {
+            Err(Refused { number: 14, place })
         } else {
             Ok(())
         }
     }
 
     // Whether the arrival is admitted. Which block it gets is left open, if it is free.
-    pub(crate) fn arrive(&self, row: u32, kind: Kind) -> Result<(), Fault> {
+    pub(crate) fn arrive(&self, row: u32, kind: Kind) -> Result<(), Refused> {
         self.ready()?;
-        let Some(asked) = self.setting.plan.row(row as usize) else {
-            return Err(refused(Refusal::NotInPlan, row));
+        let place = row;
+        let Some(terms) = self.setting.terms.get(row as usize) else {
+            return Err(Refused { number: 15, place });
         };
-        let helper = !asked.is_track();
+        let helper = terms.abnormal.is_none();
         let checks = [
-            (Refusal::AbnormalHelper, helper && kind == Kind::Abnormal),
-            (Refusal::TooEarly, self.too_early(row, asked.period())),
-            (
-                Refusal::HelperInAbnormalMode,
-                helper && self.mode_is_abnormal(),
-            ),
-            (Refusal::JobNotEnded, self.unended(row).is_some()),
-            (Refusal::NoFreeBlock, !self.has_free()),
+            (16, helper && is_abnormal(kind)),
+            (17, self.too_early(row, terms.period)),
+            (18, helper && self.mode_is_abnormal()),
+            (19, self.unended(row).is_some()),
+            (20, !self.has_free()),
         ];
         match checks.iter().find(|(_, applies)| *applies) {
-            Some((refusal, _)) => Err(refused(*refusal, row)),
+            Some((number, _)) => Err(Refused {
+                number: *number,
+                place,
+            }),
             None => Ok(()),
         }
     }
@@ -106,7 +107,7 @@ impl Standing<'_> {
         })
     }
 
-    pub(crate) fn begin(&self) -> Result<TurnNumbers, Fault> {
+    pub(crate) fn begin(&self) -> Result<TurnNumbers, Refused> {
         self.ready()?;
         Ok(TurnNumbers {
             number: self.setting.number,

@@ -1,8 +1,8 @@
 // Generated lists of steps: mostly what a host would call, with calls that make no sense among them.
+use super::history::{Terms, row_count};
 use generator::Generator;
-use judge::Plan;
 use law::{Call, Step, TurnNumbers, Work};
-use row::{Kind, Row};
+use row::Kind;
 use std::alloc::{AllocError, Global};
 
 const TICKS: u32 = 90;
@@ -86,7 +86,7 @@ fn stray_step(draws: &mut Generator, rows: u32) -> Step {
 #[derive(Drop)]
 struct Schedule<'a> {
     draws: &'a mut Generator,
-    plan: &'a Plan,
+    terms: &'a [Terms],
     style: Style,
     due: Vec<u32>,
     steps: Vec<Step>,
@@ -94,7 +94,7 @@ struct Schedule<'a> {
 
 impl Schedule<'_> {
     fn rows(&self) -> u32 {
-        self.plan.len() as u32
+        row_count(self.terms)
     }
 
     // Whether the row arrives now: when it is due, and now and then too early.
@@ -117,9 +117,9 @@ impl Schedule<'_> {
         Ok(())
     }
 
-    fn put_arrival(&mut self, row: u32, asked: Row, tick: u32) -> Result<(), AllocError> {
-        if self.arrives(row, tick, asked.period()) {
-            let one_in = if asked.is_track() {
+    fn put_arrival(&mut self, row: u32, asked: Terms, tick: u32) -> Result<(), AllocError> {
+        if self.arrives(row, tick, asked.period) {
+            let one_in = if asked.abnormal.is_some() {
                 self.style.abnormal
             } else {
                 20
@@ -134,10 +134,10 @@ impl Schedule<'_> {
     fn put_arrivals(&mut self, tick: u32, helpers_only: bool) -> Result<(), AllocError> {
         let rows = self.rows();
         let start = self.draws.below(rows);
-        // By number, since a plan gives a row by its number only.
+        // By number, since an arrival names its row by its number.
         for row in (start..rows).chain(0..start) {
-            if let Some(asked) = self.plan.row(row as usize) {
-                if !(helpers_only && asked.is_track()) {
+            if let Some(asked) = self.terms.get(row as usize).copied() {
+                if !(helpers_only && asked.abnormal.is_some()) {
                     self.put_arrival(row, asked, tick)?;
                 }
             }
@@ -172,14 +172,14 @@ impl Schedule<'_> {
 pub(crate) fn make_steps(
     heap: Global,
     draws: &mut Generator,
-    plan: &Plan,
+    terms: &[Terms],
 ) -> Result<Vec<Step>, AllocError> {
     let style = make_style(draws);
     let mut schedule = Schedule {
         draws,
-        plan,
+        terms,
         style,
-        due: vec![in heap; 0; plan.len()]?,
+        due: vec![in heap; 0; terms.len()]?,
         steps: Vec::new(heap),
     };
     for tick in 0..TICKS {

@@ -1,9 +1,8 @@
 // What was seen, and how it is printed.
-use super::history::Admission;
+use super::history::{Admission, Terms, is_abnormal};
 use super::standing::Standing;
-use judge::{Bounds, Plan};
 use law::{Answer, Outcome, Reply, TurnNumbers};
-use row::{Fault, Kind, Refusal};
+use row::Kind;
 use std::{fmt, io};
 use tallies::{Agreement, Refusals, count};
 
@@ -37,16 +36,6 @@ pub struct Tally {
     unbounded: u32,
 }
 
-// The bound of a row's jobs of this kind. Those of a helper are normal.
-// Reckoned here too: the model shares no code with what it tests.
-fn bound_of(bounds: Bounds, kind: Kind) -> u32 {
-    match (bounds.late, kind) {
-        (None, _) => bounds.normal,
-        (Some(late), Kind::Normal) => late.mixed,
-        (Some(late), Kind::Abnormal) => late.long,
-    }
-}
-
 impl Latest {
     fn note(&mut self, kind: Kind, response: u32) {
         let latest = match kind {
@@ -58,9 +47,9 @@ impl Latest {
 }
 
 impl Tally {
-    fn note_refusal(&mut self, fault: Fault, enough: bool) {
-        self.refused.note(fault.refusal.number());
-        if fault.refusal == Refusal::NoFreeBlock && enough {
+    fn note_refusal(&mut self, number: u8, enough: bool) {
+        self.refused.note(number);
+        if number == 20 && enough {
             count(&mut self.wanting);
         }
     }
@@ -75,7 +64,7 @@ impl Tally {
             Ok(Reply::Done(Outcome::GoesOn)) => count(&mut self.going_on),
             Ok(Reply::Done(Outcome::Finished)) => count(&mut self.finished),
             Ok(Reply::Done(Outcome::Cut)) => count(&mut self.cut),
-            Err(fault) => self.note_refusal(fault, enough),
+            Err(fault) => self.note_refusal(fault.refusal.number(), enough),
         }
     }
 
@@ -103,14 +92,15 @@ impl Tally {
         let jobs = standing.jobs.as_slice();
         for job in jobs {
             let row = job.row as usize;
-            let Some(bounds) = standing.setting.plan.bounds(row) else {
+            let Some(terms) = standing.setting.terms.get(row) else {
                 continue;
             };
             // only a helper's bound needs that all jobs are normal
-            if bounds.late.is_none() && met_abnormal(job, jobs) {
+            if terms.abnormal.is_none() && met_abnormal(job, jobs) {
                 count(&mut self.unbounded);
             } else if let Some(latest) = latest.get_mut(row) {
-                self.note_response(job, standing.clock, bound_of(bounds, job.kind), latest);
+                let bound = terms.of_kind(job.kind).bound;
+                self.note_response(job, standing.clock, bound, latest);
             }
         }
     }
@@ -163,25 +153,22 @@ impl fmt::Display for Tally {
 // Whether an abnormal job was admitted after this one, while it was unended.
 fn met_abnormal(job: &Admission, jobs: &[Admission]) -> bool {
     let mut behind = jobs.iter().filter(|other| other.from > job.from);
-    behind.any(|other| other.kind == Kind::Abnormal && job.unended_at(other.from))
+    behind.any(|other| is_abnormal(other.kind) && job.unended_at(other.from))
 }
 
 // The latest response of each row against its bound.
 pub(crate) fn print_latest(
     rt: &HostRuntime,
     name: &str,
-    plan: &Plan,
+    terms: &[Terms],
     all: &[Latest],
 ) -> io::Result<()> {
     println!(rt; "{name}, latest response and bound:")?;
-    for (row, latest) in all.iter().enumerate() {
-        let Some(bounds) = plan.bounds(row) else {
-            continue;
-        };
-        let bound = bound_of(bounds, Kind::Normal);
+    for (row, (asked, latest)) in terms.iter().zip(all.iter()).enumerate() {
+        let bound = asked.normal.bound;
         print!(rt; "  row {row}: normal {} of {bound}", latest.normal)?;
-        if let Some(late) = bounds.late {
-            print!(rt; ", abnormal {} of {}", latest.abnormal, late.long)?;
+        if let Some(abnormal) = asked.abnormal {
+            print!(rt; ", abnormal {} of {}", latest.abnormal, abnormal.bound)?;
         }
         println!(rt; "")?;
     }
