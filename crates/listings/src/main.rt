@@ -5,21 +5,31 @@ use lineup_check::check_lineup;
 use std::alloc::Global;
 use std::io;
 
-// The value of a hexadecimal digit, or none for any other byte.
+// The value of a hexadecimal digit, or none for any other byte. Capital letters are no digits here.
 fn digit(byte: u8) -> Option<u8> {
-    let digit = char::from(byte).to_digit(16)?;
-    Some(digit as u8)
+    match byte {
+        b'0'..=b'9' => Some(byte - b'0'),
+        b'a'..=b'f' => Some(byte - b'a' + 10),
+        _ => None,
+    }
 }
 
 // The bytes that the digits spell, two for each; all else is passed over.
 // Not `script::decode`, which refuses text: what stands in this input is known.
 fn from_hex(heap: Global, text: &[u8]) -> io::Result<Vec<u8>> {
-    let digits: Vec<u8> = text.iter().filter_map(|byte| digit(*byte)).collect(heap)?;
-    let (pairs, _) = digits.as_slice().as_chunks::<2>();
-    let bytes = pairs
-        .iter()
-        .map(|[high, low]| high.wrapping_mul(16).wrapping_add(*low))
-        .collect(heap)?;
+    let mut bytes = Vec::new(heap);
+    let mut high = None;
+    // one by one: digits that are kept for their pairs take twice the memory of the bytes, and a chain of digits more time
+    for byte in text {
+        match (high, digit(*byte)) {
+            (_, None) => {}
+            (None, low) => high = low,
+            (Some(first), Some(low)) => {
+                bytes.push(first.wrapping_mul(16).wrapping_add(low))?;
+                high = None;
+            }
+        }
+    }
     Ok(bytes)
 }
 

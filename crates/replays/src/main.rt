@@ -9,6 +9,9 @@ use row::{Kind, RowNumbers};
 use session::{Session, SessionFault, replay};
 use std::io;
 
+// The log of a replay lies in fixed memory, so that the program allocates nothing.
+const MOST: usize = 64;
+
 const NUMBER: u32 = 7;
 
 // The worked example: two tracks and a helper.
@@ -78,11 +81,10 @@ impl Replay<'_> {
         board: B,
         pool: P,
     ) -> io::Result<()> {
-        let mut log = vec![in self.rt.alloc(); Ok(Reply::Done(Outcome::Idle)); self.calls.len()]?;
-        let answers = log.as_mut_slice();
-        let _ = replay(self.plan, board, pool, NUMBER, self.calls, answers);
+        let mut log = [Ok(Reply::Done(Outcome::Idle)); MOST];
+        let _ = replay(self.plan, board, pool, NUMBER, self.calls, &mut log);
         print!(self.rt; "{name}:")?;
-        for answer in log.iter() {
+        for answer in log.iter().take(self.calls.len()) {
             print_answer(self.rt, *answer)?;
         }
         println!(self.rt; "")
