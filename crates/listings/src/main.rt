@@ -19,12 +19,14 @@ fn digit(byte: u8) -> Option<u8> {
 fn from_hex(heap: Global, text: &[u8]) -> io::Result<Vec<u8>> {
     let mut bytes = Vec::new(heap);
     let mut high = None;
-    // one by one: digits that are kept for their pairs take twice the memory of the bytes, and a chain of digits more time
+    // one by one: digits that are kept for their pairs take twice the time and more memory, and a chain of them more time
     for byte in text {
-        match (high, digit(*byte)) {
-            (_, None) => {}
-            (None, low) => high = low,
-            (Some(first), Some(low)) => {
+        let Some(low) = digit(*byte) else {
+            continue;
+        };
+        match high {
+            None => high = Some(low),
+            Some(first) => {
                 bytes.push(first.wrapping_mul(16).wrapping_add(low))?;
                 high = None;
             }

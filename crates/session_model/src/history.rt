@@ -19,7 +19,7 @@ pub struct JobTerms {
     pub bound: u32,
 }
 
-// What is known of a row of the plan: the model's own table, so that it asks the core nothing.
+// What is known of a row of the plan: the model's own table, filled once, so that no call of the model asks the core.
 #[derive(Clone, Copy)]
 pub struct Terms {
     pub period: u32,
