@@ -54,6 +54,9 @@ module _ {L : Type 0} (makes : Option TurnNumbers → L → Call) (past : L) (li
       rw add-one (λ z. record { call = makes (open_turn_at (rest z)) (get_or lines i past); answer = new z } ∷ rest z)
 
 -- the same for a list of steps
+pub logged_steps_kept : (steps : List Step) (log : List Answer) (i : ℕ) (a : Answer) (n : ℕ) → n ≤ i → logged_steps steps (set log i a) n ≡ logged_steps steps log n
+logged_steps_kept steps log i a n l = logged-kept made (Given Begin) steps log i a n l
+
 pub logged_steps_more : (steps : List Step) (log : List Answer) (i : ℕ) (a : Answer) → i < length log
     → logged_steps steps (set log i a) (i + 1) ≡ record { call = made (open_turn_at (logged_steps steps log i)) (get_or steps i (Given Begin)); answer = a } ∷ logged_steps steps log i
 logged_steps_more steps log i a l = logged_more made (Given Begin) steps log i a l

@@ -7,28 +7,28 @@ use std::io;
 
 // The value of a hexadecimal digit, or none for any other byte. Capital letters are no digits here.
 fn digit(byte: u8) -> Option<u8> {
-    match byte {
-        b'0'..=b'9' => Some(byte - b'0'),
-        b'a'..=b'f' => Some(byte - b'a' + 10),
-        _ => None,
-    }
+    let symbol = char::from(byte);
+    // before `a` stand the decimal digits and the capital letters
+    let value = if byte < b'a' {
+        symbol.to_digit(10)?
+    } else {
+        symbol.to_digit(16)?
+    };
+    Some(value as u8)
 }
 
-// The bytes that the digits spell, two for each; all else is passed over.
+// The bytes that the digits spell, two for each; all else is passed over, as is a last digit alone.
 // Not `script::decode`, which refuses text: what stands in this input is known.
 fn from_hex(heap: Global, text: &[u8]) -> io::Result<Vec<u8>> {
     let mut bytes = Vec::new(heap);
-    let mut high = None;
-    // one by one: digits that are kept for their pairs take twice the time and more memory, and a chain of them more time
+    let mut high: Option<u8> = None;
+    // paired as they come: a list of the digits takes more memory, and a chain of them more time on a line of blanks
     for byte in text {
-        let Some(low) = digit(*byte) else {
-            continue;
-        };
-        match high {
-            None => high = Some(low),
-            Some(first) => {
+        if let Some(low) = digit(*byte) {
+            if let Some(first) = high.take() {
                 bytes.push(first.wrapping_mul(16).wrapping_add(low))?;
-                high = None;
+            } else {
+                high = Some(low);
             }
         }
     }

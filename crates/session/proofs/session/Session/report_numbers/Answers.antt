@@ -1,11 +1,11 @@
 -- A refusal leaves everything as it was; an accepted report gives one tick to the clock and to the job of its turn.
-use Rattle.std.proofs.Common.{sym, ap, subst, Ok}
+use Rattle.std.proofs.Common.{ap, subst, Ok}
 use Rattle.judge.specs.Plan.{rows_of}
 use Rattle.law.specs.declared.calls.Reply.TheVariants.{Done}
 use Rattle.law.specs.declared.calls.Call.TheVariants.{Report}
 use Rattle.law.specs.Rules.{Answers}
 use Rattle.session.specs.View.{rows_in, view, Tied, Allowed}
-use Rattle.session.proofs.Histories.{extended, said_up}
+use Rattle.session.proofs.Histories.{extended}
 use Rattle.session.proofs.Reports.{worked_next}
 use Rattle.session.proofs.session.Session.report_numbers.Goals as goal
 
